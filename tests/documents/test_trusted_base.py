@@ -125,6 +125,12 @@ class TrustedBase(Rules):
             self.assertRegex(tests, rf"\b(?:fn|def) {test}\b")
         self.assert_looked_at(len(bodies), 8, "bodies")
 
+    def test_main_alone_names_the_files_of_the_system(self):
+        """All that the program does with a log or an output stands in functions over any system."""
+        paths = [*TOP.glob("crates/program_*/src/*.rt"), *TOP.glob("crates/zevkhadun/src/*.rt")]
+        named = [path.relative_to(TOP / "crates").as_posix() for path in paths if "HostFiles" in text_of(path)]
+        self.assertEqual(named, ["zevkhadun/src/main.rt"])
+
     def test_no_crate_declares_a_function_of_c(self):
         """A crate that did would rest on its contract, and no axiom of ours is to be there."""
         paths = [path for path in (TOP / "crates").glob("*/src/**/*.rt")]

@@ -4,9 +4,9 @@ use crate::arguments::{output_path, wrong_words};
 use crate::failure::{Failure, FailureCause, with_file};
 use clap::ArgMatches;
 use std::alloc::Global;
+use std::fs;
 use std::os::unix::fs::MetadataExt;
-use std::{fs, io};
-use store_files::{CreateError, DiskFolder, DiskSink, HostFiles};
+use store_files::{CreateError, DiskFolder, DiskSink, SystemFiles};
 
 // The file that is open as the standard input.
 const STANDARD_INPUT: &str = "/dev/stdin";
@@ -73,20 +73,26 @@ impl<'a> OutputPath<'a> {
     }
 
     /// The folder in which it is written, and the name that links lead to.
-    pub fn folder(self, rt: &HostRuntime) -> Result<(DiskFolder<HostFiles>, String), CreateError> {
-        let system = HostFiles::new(rt).map_err(io::Error::from)?;
+    pub fn folder<S: SystemFiles>(
+        self,
+        alloc: Global,
+        system: S,
+    ) -> Result<(DiskFolder<S>, String), CreateError> {
         if self.replaces {
-            return DiskFolder::of_file(rt.alloc(), system, self.path);
+            return DiskFolder::of_file(alloc, system, self.path);
         }
-        DiskFolder::of_new_file(rt.alloc(), system, self.path)
+        DiskFolder::of_new_file(alloc, system, self.path)
     }
 
     /// The output itself, of nothing yet.
-    pub fn sink(self, rt: &HostRuntime) -> Result<DiskSink<HostFiles>, CreateError> {
-        let system = HostFiles::new(rt).map_err(io::Error::from)?;
+    pub fn sink<S: SystemFiles>(
+        self,
+        alloc: Global,
+        system: S,
+    ) -> Result<DiskSink<S>, CreateError> {
         if self.replaces {
-            return DiskSink::create(rt.alloc(), system, self.path);
+            return DiskSink::create(alloc, system, self.path);
         }
-        DiskSink::create_new(rt.alloc(), system, self.path)
+        DiskSink::create_new(alloc, system, self.path)
     }
 }

@@ -5,27 +5,27 @@ use crate::output_path::OutputPath;
 use crate::progress::Progress;
 use std::alloc::Global;
 use store_commands::StoreShape;
-use store_files::{DiskFolder, HostFiles};
+use store_files::{DiskFolder, SystemFiles};
 use store_published::{FillError, Filling, Written, publish_store};
 
 /// The folder of a file that is to be written, and the name of the file in it.
 #[derive(Drop)]
-pub struct OutputPlace {
-    pub folder: DiskFolder<HostFiles>,
+pub struct OutputPlace<S: SystemFiles> {
+    pub folder: DiskFolder<S>,
     pub name: String,
 }
 
 /// A store that was published on disk, or why it was not.
 pub type Outcome<E> = Result<Written, FillError<E>>;
 
-impl OutputPlace {
+impl<S: SystemFiles> OutputPlace<S> {
     /// Fills a store and publishes it here.
-    pub fn publish<S: Filling>(
+    pub fn publish<T: Filling>(
         &mut self,
         alloc: Global,
         shape: StoreShape,
-        filling: &mut S,
-    ) -> Outcome<S::Error> {
+        filling: &mut T,
+    ) -> Outcome<T::Error> {
         publish_store(
             alloc,
             &mut self.folder,
@@ -39,14 +39,15 @@ impl OutputPlace {
 
 /// The place of a store that is made of these inputs, of which none may be the output. It is in a box: a function that
 /// owns it moves and drops one value, and not all of its parts.
-pub fn output_place(
+pub fn output_place<S: SystemFiles>(
     rt: &HostRuntime,
+    system: S,
     output: OutputPath<'_>,
     inputs: &[&str],
-) -> Result<Box<OutputPlace>, Failure> {
+) -> Result<Box<OutputPlace<S>>, Failure> {
     output.check_name(rt.alloc(), "a store can't be written to standard output")?;
     output.check_inputs(rt, inputs)?;
-    let (folder, name) = with_file(rt.alloc(), output.path, output.folder(rt))?;
+    let (folder, name) = with_file(rt.alloc(), output.path, output.folder(rt.alloc(), system))?;
     Ok(Box::new(rt.alloc(), OutputPlace { folder, name })?)
 }
 

@@ -20,8 +20,9 @@ pub const NO_TAIL: FailureCause = FailureCause::Log(LogRefusal {
 /// Why a call failed that a log refuses with this error.
 pub fn refused(error: LogError) -> FailureCause {
     let (text, advice, status) = match error {
+        LogError::Failed(reason) => return FailureCause::System(reason),
         LogError::Memory => ("no memory", "", Status::System),
-        LogError::Failed => ("the folder failed", "", Status::System),
+        LogError::Unsynced => ("a sync of a segment has failed", "", Status::System),
         LogError::Full => ("the log is full", "", Status::Broken),
         LogError::BatchFull => (
             "the batch is full",

@@ -1,11 +1,11 @@
-//! A log that is open, with errors that say why.
+//! A log that is open to be written.
 
 use crate::log_refusal::refused;
 use program_base::failure::FailureCause;
-use segmented_log::{Commit, LogError, SegmentedLog};
+use segmented_log::{Commit, SegmentedLog};
 use std::alloc::Global;
 use std::{fs, io};
-use store_files::{DiskFolder, HostFiles};
+use store_files::{DiskFolder, SystemFiles};
 use store_folder::Folder;
 
 /// How the tail of a log is written: how a sync puts records on the disk, and the size in bytes past which it is
@@ -16,22 +16,11 @@ pub struct TailOptions {
     pub seal_size: usize,
 }
 
-// A log on disk, in a box: a function that owns it moves and drops one value, and not all of its parts.
-type DiskLog = Box<SegmentedLog<DiskFolder<HostFiles>>>;
-
-/// A log that is open.
+/// A log that is open to be written, in a box: a function that owns it moves and drops one value, and not all of its
+/// parts.
 #[derive(Drop)]
-pub struct OpenedLog {
-    log: DiskLog,
-    system: HostFiles,
-}
-
-/// Why a call on a log failed: what the system said, if it refused a call on the folder.
-pub fn explained(system: &HostFiles, error: LogError) -> FailureCause {
-    match (error, system.take_cause()) {
-        (LogError::Failed, Some(error)) => FailureCause::System(error),
-        _ => refused(error),
-    }
+pub struct OpenedLog<S: SystemFiles> {
+    log: Box<SegmentedLog<DiskFolder<S>>>,
 }
 
 // Whether a file of this name is one that was being published.
@@ -40,10 +29,10 @@ fn is_part(name: &str) -> bool {
 }
 
 // Removes what a call that failed left unpublished.
-fn remove_parts(
+fn remove_parts<S: SystemFiles>(
     rt: &HostRuntime,
     path: &str,
-    folder: &mut DiskFolder<HostFiles>,
+    folder: &mut DiskFolder<S>,
 ) -> io::Result<()> {
     for entry in fs::read_dir(rt, path)? {
         let entry = entry?;
@@ -54,31 +43,18 @@ fn remove_parts(
     Ok(())
 }
 
-impl OpenedLog {
-    /// Opens the log in a folder of this system.
+impl<S: SystemFiles> OpenedLog<S> {
+    /// Opens the log in a folder.
     pub fn open(
         alloc: Global,
-        folder: DiskFolder<HostFiles>,
-        system: HostFiles,
+        folder: DiskFolder<S>,
         tail: TailOptions,
-    ) -> Result<OpenedLog, FailureCause> {
+    ) -> Result<OpenedLog<S>, FailureCause> {
         match SegmentedLog::open(alloc, folder, tail.seal_size, tail.commit) {
             Ok(log) => Ok(OpenedLog {
                 log: Box::new(alloc, log)?,
-                system,
             }),
-            Err((error, folder)) => {
-                drop(folder);
-                Err(explained(&system, error))
-            }
-        }
-    }
-
-    // The result of a call, with the reason where it failed.
-    fn result_of<T: Drop>(&self, given: Result<T, LogError>) -> Result<T, FailureCause> {
-        match given {
-            Ok(value) => Ok(value),
-            Err(error) => Err(explained(&self.system, error)),
+            Err((error, _)) => Err(refused(error)),
         }
     }
 
@@ -104,32 +80,28 @@ impl OpenedLog {
 
     /// Puts a record after the others. It is on the disk once `sync` returns Ok.
     pub fn append(&mut self, record: &[u8]) -> Result<u64, FailureCause> {
-        let number = self.log.append(record);
-        self.result_of(number)
+        self.log.append(record).map_err(refused)
     }
 
     /// Puts all records that wait on the disk.
     pub fn sync(&mut self) -> Result<(), FailureCause> {
-        let synced = self.log.sync();
-        self.result_of(synced)
+        self.log.sync().map_err(refused)
     }
 
     /// Puts the tail's records into a segment.
     pub fn seal(&mut self) -> Result<(), FailureCause> {
-        let sealed = self.log.seal();
-        self.result_of(sealed)
+        self.log.seal().map_err(refused)
     }
 
     /// Joins neighbouring segments whose data together has at most this many bytes.
     pub fn compact(&mut self, size: u64) -> Result<(), FailureCause> {
-        let compacted = self.log.compact(size);
-        self.result_of(compacted)
+        self.log.compact(size).map_err(refused)
     }
 
     /// Closes the log at this path. What a call that failed left unpublished is removed, as it may have filled the
     /// device.
     pub fn close(self, rt: &HostRuntime, path: &str) {
-        let OpenedLog { log, .. } = self;
+        let OpenedLog { log } = self;
         if !log.is_broken() {
             return;
         }

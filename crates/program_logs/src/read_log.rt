@@ -1,53 +1,44 @@
 //! A log that is open to be read.
 
-use crate::opened_log::explained;
+ghost use Rattle.std.specs.Prelude.{◌≡◌, ℕ, List, [], IsTrue};
+
+use crate::log_refusal::refused;
 use crate::places::check_log;
 use crate::segments::segment_numbers;
 use program_base::failure::FailureCause;
 use segmented_log::{LogError, LogReader};
 use std::alloc::Global;
 use std::io::ErrorKind;
-use store_files::{DiskFolder, HostFiles};
+use store_files::{DiskFolder, SystemFiles};
+use store_folder::ReadableFolder;
 
 // How often an opening or a read is tried: a writer may change the log's segments meanwhile.
 const TRIES: usize = 1000;
 
-// The reader of a log on disk, in a box: a function that owns it moves and drops one value, and not all of its parts.
-type DiskReader = Box<LogReader<DiskFolder<HostFiles>>>;
-
-/// A log that is open to be read, as it was when it was opened first.
+/// A log that is open to be read, as it was when it was opened first. Folder and log are in boxes: a function that owns
+/// them moves and drops one value each, and not all of its parts.
 #[derive(Drop)]
-pub struct ReadLog {
-    system: HostFiles,
-    folder: Box<DiskFolder<HostFiles>>,
-    log: DiskReader,
+pub struct ReadLog<'a, S: SystemFiles> {
+    folder: Box<DiskFolder<&'a S>>,
+    log: Box<LogReader<DiskFolder<&'a S>>>,
     end: u64,
 }
 
 // What a call gave; none where a writer changed the log meanwhile. A segment may be gone since it was listed: the
 // writer joined it with others, or removed it.
-fn unless_changed<T: Drop>(
-    system: &HostFiles,
-    outcome: Result<T, LogError>,
-) -> Result<Option<T>, FailureCause> {
+fn unless_changed<T: Drop>(outcome: Result<T, LogError>) -> Result<Option<T>, FailureCause> {
     match outcome {
         Ok(value) => Ok(Some(value)),
         Err(LogError::Changed) => Ok(None),
-        Err(error) => match explained(system, error) {
-            FailureCause::System(error) if error.kind() == ErrorKind::NotFound => Ok(None),
-            cause => Err(cause),
-        },
+        Err(LogError::Failed(reason)) if reason.kind() == ErrorKind::NotFound => Ok(None),
+        Err(error) => Err(refused(error)),
     }
 }
 
 // Opens the log of a folder.
-fn open(
-    alloc: Global,
-    folder: &DiskFolder<HostFiles>,
-    system: &HostFiles,
-) -> Result<DiskReader, FailureCause> {
+fn open<F: ReadableFolder>(alloc: Global, folder: &F) -> Result<Box<LogReader<F>>, FailureCause> {
     for _ in 0..TRIES {
-        if let Some(log) = unless_changed(system, LogReader::open(alloc, folder))? {
+        if let Some(log) = unless_changed(LogReader::open(alloc, folder))? {
             return Ok(Box::new(alloc, log)?);
         }
     }
@@ -56,23 +47,23 @@ fn open(
 
 /// Opens a log that is there, to read it. Nothing is changed, and a writer may go on. Of a log whose tail is damaged it
 /// has the records before the damage.
-pub fn open_to_read(rt: &HostRuntime, path: &str) -> Result<ReadLog, FailureCause> {
+pub fn open_to_read<'a, S: SystemFiles>(
+    rt: &HostRuntime,
+    system: &'a S,
+    path: &str,
+) -> Result<ReadLog<'a, S>, FailureCause>
+    requires unchanged { IsTrue S.honest → (d : List ℕ) → S.changes system.now d ≡ [] }
+{
     check_log(rt, path)?;
     let _plain = segment_numbers(rt, path)?;
-    let (alloc, system) = (rt.alloc(), HostFiles::new(rt)?);
-    let folder = DiskFolder::open_to_read(alloc, system.clone()?, path)?;
-    let folder = Box::new(alloc, folder)?;
-    let log = open(alloc, &folder, &system)?;
+    let folder = DiskFolder::open_to_read(rt.alloc(), system, path)?;
+    let folder = Box::new(rt.alloc(), folder)?;
+    let log = open(rt.alloc(), &*folder)?;
     let end = log.end();
-    Ok(ReadLog {
-        system,
-        folder,
-        log,
-        end,
-    })
+    Ok(ReadLog { folder, log, end })
 }
 
-impl ReadLog {
+impl<'a, S: SystemFiles> ReadLog<'a, S> {
     /// The number of the first record.
     pub fn first(&self) -> u64 {
         self.log.first()
@@ -100,10 +91,9 @@ impl ReadLog {
                 Ok(Some(record)) => return Ok(record),
                 Ok(None) => return Err(self.no_record(number)),
                 Err(LogError::Damaged) => return Err(FailureCause::DamagedRecord(number)),
-                Err(error) => unless_changed::<()>(&self.system, Err(error))?,
+                Err(error) => unless_changed::<()>(Err(error))?,
             };
-            let refreshed = self.log.refresh(&self.folder);
-            unless_changed(&self.system, refreshed)?;
+            unless_changed(self.log.refresh(&self.folder))?;
         }
         Err(FailureCause::BusyLog)
     }

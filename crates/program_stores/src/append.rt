@@ -19,6 +19,7 @@ use program_base::store_output::{end_output, output_place};
 use std::alloc::{AllocError, Global};
 use store_commands::StoreShape;
 use store_commands::copied_store::copy_store;
+use store_files::SystemFiles;
 use store_published::Filling;
 
 const EXAMPLE: &str = "\
@@ -126,7 +127,8 @@ impl<'a, 'o, 'p, 'w> Filling for Appending<'a, 'o, 'p, 'w> {
 }
 
 // Appends documents to the store.
-fn append<'a, 'o>(
+fn append<'a, 'o, S: SystemFiles>(
+    system: S,
     store: OldStore<'a, 'o>,
     block_size: usize,
     documents: Packing<'a, 'o, '_, '_>,
@@ -136,7 +138,7 @@ fn append<'a, 'o>(
         path,
         replaces: true,
     };
-    let mut place = output_place(rt, output, documents.inputs())?;
+    let mut place = output_place(rt, system, output, documents.inputs())?;
     let shape = with_file(rt.alloc(), path, store.shape(block_size))?;
     let appending = Appending {
         store,
@@ -149,7 +151,11 @@ fn append<'a, 'o>(
 }
 
 /// Writes the store.
-pub fn run(rt: &HostRuntime, matches: &ArgMatches<'_>) -> Result<(), Failure> {
+pub fn run<S: SystemFiles>(
+    rt: &HostRuntime,
+    system: S,
+    matches: &ArgMatches<'_>,
+) -> Result<(), Failure> {
     let alloc = rt.alloc();
     let path = word(alloc, matches, "STORE")?;
     let block_size = block_size_of(alloc, matches)?;
@@ -158,5 +164,5 @@ pub fn run(rt: &HostRuntime, matches: &ArgMatches<'_>) -> Result<(), Failure> {
     let words = words_of(matches).unwrap_or(unnamed_words(list.is_some()));
     let names = with_file(alloc, path, names_of(alloc, words, list.as_deref()))?;
     let documents = Packing::of_files(rt, path, &names, options);
-    append(OldStore { rt, path }, block_size, documents)
+    append(system, OldStore { rt, path }, block_size, documents)
 }

@@ -10,6 +10,7 @@ use program_base::progress::Progress;
 use program_base::store_file::StorePath;
 use program_base::store_output::{OutputPlace, output_place, summarize};
 use std::alloc::{AllocError, Global};
+use store_files::SystemFiles;
 use store_published::{FillError, publish_export};
 
 // How many bytes of the store are in memory at a time.
@@ -56,15 +57,16 @@ fn failure_of(alloc: Global, input: &str, out: &str, error: FillError<StoreError
 }
 
 // Writes the store as a file of this name.
-fn export(
+fn export<S: SystemFiles>(
     rt: &HostRuntime,
+    system: S,
     store: StorePath<'_>,
     output: OutputPath<'_>,
     progress: &Progress<'_>,
 ) -> Result<(), Failure> {
     let alloc = rt.alloc();
     let mut reader = with_file(alloc, store.path, store.reader(rt))?;
-    let mut place = output_place(rt, output, &[store.path])?;
+    let mut place = output_place(rt, system, output, &[store.path])?;
     let OutputPlace { folder, name } = &mut *place;
     match publish_export(alloc, folder, name.as_str(), &mut *reader, PART_BYTES) {
         Ok(written) => summarize(rt, output.path, written, progress),
@@ -73,7 +75,11 @@ fn export(
 }
 
 /// Writes the file.
-pub fn run(rt: &HostRuntime, matches: &ArgMatches<'_>) -> Result<(), Failure> {
+pub fn run<S: SystemFiles>(
+    rt: &HostRuntime,
+    system: S,
+    matches: &ArgMatches<'_>,
+) -> Result<(), Failure> {
     let alloc = rt.alloc();
     let store = StorePath {
         path: input_path(alloc, matches)?,
@@ -81,5 +87,5 @@ pub fn run(rt: &HostRuntime, matches: &ArgMatches<'_>) -> Result<(), Failure> {
     };
     let output = output_of(alloc, matches)?;
     let progress = Progress::begin(rt, matches.get_flag("quiet"), None);
-    export(rt, store, output, &progress)
+    export(rt, system, store, output, &progress)
 }

@@ -12,7 +12,7 @@ use std::alloc::{AllocError, Global};
 use std::fs;
 use store_commands::block_documents::documents_with_room;
 use store_commands::store_numbers::{StoreNumbers, block_sizes, numbers_of};
-use store_files::{DiskSink, HostFiles};
+use store_files::{DiskSink, SystemFiles};
 use store_page::{Beginning, BlockStarts, Excerpt, Histogram, MOST_EXCERPTS, Page, excerpt_bytes};
 
 const EXAMPLE: &str = "\
@@ -195,7 +195,7 @@ fn page_of(rt: &HostRuntime, store: StorePath<'_>) -> Result<String, FailureCaus
 }
 
 // Writes the page.
-fn write_page(sink: &mut DiskSink<HostFiles>, page: &str) -> Result<(), FailureCause> {
+fn write_page<S: SystemFiles>(sink: &mut DiskSink<S>, page: &str) -> Result<(), FailureCause> {
     if sink.write_all(page.as_bytes()).is_ok() && sink.terminate().is_ok() {
         return Ok(());
     }
@@ -206,22 +206,31 @@ fn write_page(sink: &mut DiskSink<HostFiles>, page: &str) -> Result<(), FailureC
 }
 
 // Draws a store on the page of this name, which is begun before the store is read.
-fn draw(rt: &HostRuntime, store: StorePath<'_>, output: OutputPath<'_>) -> Result<(), Failure> {
+fn draw<S: SystemFiles>(
+    rt: &HostRuntime,
+    system: S,
+    store: StorePath<'_>,
+    output: OutputPath<'_>,
+) -> Result<(), Failure> {
     let alloc = rt.alloc();
     output.check_name(alloc, "a page can't be written to standard output")?;
     output.check_inputs(rt, &[store.path])?;
-    let mut sink = with_file(alloc, output.path, output.sink(rt))?;
+    let mut sink = with_file(alloc, output.path, output.sink(alloc, system))?;
     let page = with_file(alloc, store.path, page_of(rt, store))?;
     with_file(alloc, output.path, write_page(&mut sink, page.as_str()))
 }
 
 /// Writes the page, or prints what the store has.
-pub fn run(rt: &HostRuntime, matches: &ArgMatches<'_>) -> Result<(), Failure> {
+pub fn run<S: SystemFiles>(
+    rt: &HostRuntime,
+    system: S,
+    matches: &ArgMatches<'_>,
+) -> Result<(), Failure> {
     let store = store_path(rt, matches)?;
     match matches.get_str("html").or(matches.get_str("OUT")) {
         Some(path) => {
             let replaces = matches.get_flag("replace");
-            draw(rt, store, OutputPath { path, replaces })
+            draw(rt, system, store, OutputPath { path, replaces })
         }
         None => with_file(rt.alloc(), store.path, print_store(rt, store)),
     }

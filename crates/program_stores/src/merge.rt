@@ -17,6 +17,7 @@ use std::alloc::{AllocError, Global};
 use store_commands::StoreShape;
 use store_commands::kept_documents::input_without;
 use store_commands::merging::merge_store;
+use store_files::SystemFiles;
 use store_published::Filling;
 
 /// How many bytes of a store that is stacked are in memory at a time.
@@ -234,8 +235,9 @@ impl<'a, 'm, 'w> Filling for StoreFiles<'a, 'm, 'w> {
 }
 
 // Merges as the words say.
-fn merge_stores<'a, 'm, 'w>(
+fn merge_stores<'a, 'm, 'w, S: SystemFiles>(
     rt: &'a HostRuntime,
+    system: S,
     output: OutputPath<'_>,
     shape: StoreShape,
     merging: Merging<'m, 'w>,
@@ -247,13 +249,17 @@ fn merge_stores<'a, 'm, 'w>(
         merging,
         progress,
     };
-    let mut place = output_place(rt, output, merging.paths)?;
+    let mut place = output_place(rt, system, output, merging.paths)?;
     let outcome = place.publish(rt.alloc(), shape, &mut stores);
     end_output(rt, output.path, outcome, &stores.progress)
 }
 
 /// Writes the store.
-pub fn run(rt: &HostRuntime, matches: &ArgMatches<'_>) -> Result<(), Failure> {
+pub fn run<S: SystemFiles>(
+    rt: &HostRuntime,
+    system: S,
+    matches: &ArgMatches<'_>,
+) -> Result<(), Failure> {
     let shape = shape_of(rt.alloc(), matches)?;
     let paths = matches.get_strs("INPUT").unwrap_or(&[]);
     let words = matches.get_strs("without").unwrap_or(&[]);
@@ -265,5 +271,5 @@ pub fn run(rt: &HostRuntime, matches: &ArgMatches<'_>) -> Result<(), Failure> {
     };
     let output = output_of(rt.alloc(), matches)?;
     let progress = Progress::begin(rt, matches.get_flag("quiet"), None);
-    merge_stores(rt, output, shape, merging, progress)
+    merge_stores(rt, system, output, shape, merging, progress)
 }

@@ -20,6 +20,7 @@ use program_base::store_output::{end_output, output_place};
 use std::alloc::{AllocError, Global};
 use std::io::{BufRead, IsTerminal};
 use store_commands::StoreShape;
+use store_files::SystemFiles;
 use store_published::{Filling, store_document};
 
 // The name of the standard input in messages.
@@ -294,19 +295,24 @@ pub fn unnamed_words(has_list: bool) -> &'static [&'static str] {
 }
 
 // Writes a store of this name.
-fn pack(
+fn pack<S: SystemFiles>(
     rt: &HostRuntime,
+    system: S,
     output: OutputPath<'_>,
     shape: StoreShape,
     packing: &mut Packing<'_, '_, '_, '_>,
 ) -> Result<(), Failure> {
-    let mut place = output_place(rt, output, packing.inputs())?;
+    let mut place = output_place(rt, system, output, packing.inputs())?;
     let outcome = place.publish(rt.alloc(), shape, packing);
     end_output(rt, output.path, outcome, &packing.progress)
 }
 
 /// Writes the store.
-pub fn run(rt: &HostRuntime, matches: &ArgMatches<'_>) -> Result<(), Failure> {
+pub fn run<S: SystemFiles>(
+    rt: &HostRuntime,
+    system: S,
+    matches: &ArgMatches<'_>,
+) -> Result<(), Failure> {
     let alloc = rt.alloc();
     let output = output_of(alloc, matches)?;
     let options = PackingOptions::of(alloc, matches)?;
@@ -315,5 +321,5 @@ pub fn run(rt: &HostRuntime, matches: &ArgMatches<'_>) -> Result<(), Failure> {
     let words = words_of(matches).unwrap_or(unnamed_words(list.is_some()));
     let names = with_file(alloc, output.path, names_of(alloc, words, list.as_deref()))?;
     let mut packing = Packing::of_files(rt, output.path, &names, options);
-    pack(rt, output, shape, &mut packing)
+    pack(rt, system, output, shape, &mut packing)
 }

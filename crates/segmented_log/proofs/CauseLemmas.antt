@@ -5,18 +5,19 @@ use Rattle.std.specs.Prelude.{Result, Ok, Err, IfErr, IsErrOf}
 use Rattle.std.specs.Result.{IsErrAnd}
 use Rattle.store_folder.specs.Folder.{Look}
 use Rattle.segmented_log.specs.declared.error.LogError.{LogError}
-use Rattle.segmented_log.specs.declared.error.LogError.TheVariants.{Memory, Failed, Full, Broken}
+use Rattle.segmented_log.specs.declared.error.LogError.TheVariants.{Memory, Failed, Unsynced, Full, Broken}
 use Rattle.segmented_log.specs.Names.{segment_name}
 use Rattle.segmented_log.specs.Parts.{Part, end_from, AreParts}
 use Rattle.segmented_log.specs.Log.{Holds}
-use Rattle.segmented_log.specs.Causes.{IsOfSeals, IsOfJoins, IsFault}
+use Rattle.segmented_log.specs.Causes.{IsOfSeals, IsOfJoins, IsFault, IsFailure}
 use Rattle.segmented_log.proofs.HoldLemmas.{firsts}
 use Rattle.segmented_log.proofs.PartLemmas.{begin_before}
 use Rattle.segmented_log.proofs.UniqueLemmas.{among_cons}
 
 seals_of : (e : LogError) → IsFault e → IsOfSeals e
 seals_of Memory of = tt
-seals_of Failed of = tt
+seals_of (Failed reason) of = tt
+seals_of Unsynced of = tt
 seals_of _ of = absurd of
 
 pub if_seals : {T : Type 0} (r : Result T LogError) → IfErr r IsFault → IfErr r IsOfSeals
@@ -26,7 +27,8 @@ if_seals (Err e) of = seals_of e of
 -- a fault is an error of a call that joins segments
 pub joins_of : (e : LogError) → IsFault e → IsOfJoins e
 joins_of Memory of = tt
-joins_of Failed of = tt
+joins_of (Failed reason) of = tt
+joins_of Unsynced of = tt
 joins_of _ of = absurd of
 
 -- an error that a table has not
@@ -51,11 +53,10 @@ memory_alone e other (Ok x) failed is = failed
 memory_alone e other (Err d) failed is = other (sym (err_is d e is) ∙ failed)
 
 -- errors that differ
-pub failed_memory : Failed ≡ Memory → ⊥
-failed_memory is = cc is
-
-pub broken_failed : Broken ≡ Failed → ⊥
-broken_failed is = cc is
+-- An error for lack of memory is no failure.
+pub no_failure : {T : Type 0} (r : Result T LogError) → IsErrAnd r (λ d. d ≡ Memory) → IsErrAnd r IsFailure → ⊥
+no_failure (Ok x) memory failed = failed
+no_failure (Err d) memory failed = subst IsFailure memory failed
 
 pub broken_full : Broken ≡ Full → ⊥
 broken_full is = cc is

@@ -4,7 +4,6 @@ use Rattle.std.specs.Prelude.{IsTrue, is_none, IfSome, Result, Err, IfErr, slice
 use Rattle.std.specs.List.{All, AllByRecursion, Contains, flat_map}
 use Rattle.std.proofs.lemmas.List.{length-map, length-take-le}
 use Rattle.store_base.proofs.ListLemmas.{all_take}
-use Rattle.store_base.specs.declared.error.StoreError.{StoreError}
 use Rattle.store_base.specs.declared.error.StoreError.TheVariants.{DamagedDocument, TooManyDocs, BlockTooLarge, OldVersion}
 use Rattle.store_format.specs.Block.{Slot, doc, damaged}
 use Rattle.store_format.specs.Slots.{slots}
@@ -27,6 +26,7 @@ use Rattle.store_published.specs.declared.publishing.FillError.{FillError}
 use Rattle.store_published.specs.declared.publishing.FillError.TheVariants.{Filling, Folder, Store}
 use Rattle.store_published.specs.Outcome.{IsRefusal}
 use Rattle.segmented_log.specs.Compacting.{IsWhole}
+use Rattle.segmented_log.specs.declared.joining.JoinError.{JoinError}
 use Rattle.segmented_log.specs.Joining.{RefusesJoin}
 use Rattle.segmented_log.specs.Causes.{IsDamaged, IsFillingOf, HasTooLong}
 use Rattle.segmented_log.proofs.JoinLemmas.{alive_all}
@@ -136,16 +136,16 @@ none_sets (x ∷ xs) all = (no_set (λ set. docs_of x.reader ≤ length set) x.a
 -- ---- why a joined segment was not published
 
 module _ {H : Type 0} (inputs : List (MergeInput H)) (old new : ℕ) (honest : AllByRecursion IsHonest inputs) (whole : AllByRecursion IsWhole inputs) where
-  abbrev Refuses : StoreError → Type 0
-  Refuses e = AllByRecursion IsHonest inputs → AllByRecursion IsWhole inputs → RefusesJoin 16384 (flat_map alive_slots inputs) e
+  abbrev Refuses : JoinError → Type 0
+  Refuses e = AllByRecursion IsHonest inputs → AllByRecursion IsWhole inputs → RefusesJoin 16384 (flat_map alive_slots inputs) e.error
 
-  pub join_damaged : (e : FillError StoreError) → IsRefusal Refuses old new e → IsFillingOf IsDamaged e → Contains (flat_map alive_slots inputs) damaged
+  pub join_damaged : (e : FillError JoinError) → IsRefusal Refuses old new e → IsFillingOf (λ d. IsDamaged d.error) e → Contains (flat_map alive_slots inputs) damaged
   join_damaged (Filling e) refused is = (refused honest whole).damaged is
   join_damaged (Folder e) refused is = absurd is
   join_damaged (Store e) refused is = absurd is
 
-  pub join_full : (e : FillError StoreError) → IsRefusal Refuses old new e → length (flat_map alive_slots inputs) < 2 ^ 32
-      → IsFillingOf (λ d. (d ≡ TooManyDocs) ⊎ (d ≡ BlockTooLarge)) e → HasTooLong (flat_map alive_slots inputs)
+  pub join_full : (e : FillError JoinError) → IsRefusal Refuses old new e → length (flat_map alive_slots inputs) < 2 ^ 32
+      → IsFillingOf (λ d. (d.error ≡ TooManyDocs) ⊎ (d.error ≡ BlockTooLarge)) e → HasTooLong (flat_map alive_slots inputs)
   join_full (Filling e) refused few is =
       let refusal = refused honest whole in
       ⊎_elim (λ many. absurd (omega (arith, few, refusal.many many))) (λ large. refusal.large large refl) is

@@ -1,32 +1,36 @@
 -- Which errors the calls of a log in a folder return, and why.
 use Rattle.std.specs.Prelude.{◌≡◌, ◌≢◌, ◌⊎◌, ℕ, ◌+◌, ◌≤◌, ◌^◌, List, ◌++◌, length, map, None, IsSome}
 use Rattle.std.specs.List.{Any, Contains}
-use Rattle.std.specs.declared.io.ErrorKind.{ErrorKind}
 use Rattle.std.specs.declared.io.ErrorKind.TheVariants.{OutOfMemory}
 use Rattle.store_base.specs.declared.error.StoreError.{StoreError}
 use Rattle.store_base.specs.declared.error.StoreError.TheVariants.{DamagedDocument, TooManyDocs, BlockTooLarge}
-use Rattle.std.specs.declared.io.ErrorKind.TheVariants.{OutOfMemory}
+use Rattle.std.specs.declared.io.Error.{Error}
 use Rattle.std.specs.IoError.{error_kind}
 use Rattle.store_folder.specs.Folder.{Look}
 use Rattle.store_published.specs.declared.publishing.FillError.{FillError}
 use Rattle.store_published.specs.declared.publishing.FillError.TheVariants.{Filling, Folder}
 use Rattle.store_format.specs.Block.{Slot, doc}
 use Rattle.segmented_log.specs.declared.error.LogError.{LogError}
-use Rattle.segmented_log.specs.declared.error.LogError.TheVariants.{Memory, Failed, Full, BatchFull, TooLong, Broken, NoLog, Damaged, DamagedTail, Changed}
+use Rattle.segmented_log.specs.declared.error.LogError.TheVariants.{Memory, Failed, Unsynced, Full, BatchFull, TooLong, Broken, NoLog, Damaged, DamagedTail, Changed}
 use Rattle.store_folder.specs.Publishing.{part}
 use Rattle.segmented_log.specs.Names.{segment_name, tail_name}
 
--- what an error of the system of this kind is
-abbrev pub IsOfKind : ErrorKind → LogError → Type 0
-IsOfKind kind Memory = kind ≡ OutOfMemory
-IsOfKind kind Failed = kind ≢ OutOfMemory
-IsOfKind kind _ = ⊥
+-- what an error of the system is for a log
+abbrev pub IsOfSystem : Error → LogError → Type 0
+IsOfSystem error Memory = error_kind error ≡ OutOfMemory
+IsOfSystem error (Failed reason) = (error_kind error ≢ OutOfMemory) × (reason ≡ error)
+IsOfSystem error _ = ⊥
+
+-- a read or a write failed, or a sync before
+abbrev pub IsFailure : LogError → Type 0
+IsFailure (Failed reason) = Unit {0}
+IsFailure Unsynced = Unit {0}
+IsFailure _ = ⊥
 
 -- a fault: no memory, or a read or a write that failed
 abbrev pub IsFault : LogError → Type 0
 IsFault Memory = Unit {0}
-IsFault Failed = Unit {0}
-IsFault _ = ⊥
+IsFault e = IsFailure e
 
 -- those of an opening
 abbrev pub IsOfOpenings : LogError → Type 0

@@ -4,6 +4,7 @@ ghost use Rattle.std.specs.Prelude.{◌≡◌, ◌≢◌, ◌⊎◌, ◌↔◌, 
 ghost use Rattle.std.specs.Prelude.{List, [], ◌∷◌, length, map, take, drop};
 ghost use Rattle.std.specs.Prelude.{IsTrue, IfOk, IfErr, IfSome, IfNone, OnSome, OnOk, OnErr, IsErrOf};
 ghost use Rattle.std.specs.List.{Contains, remove};
+ghost use Rattle.std.specs.Result.{IsErrAnd};
 ghost use Rattle.store_base.specs.Counts.{HasRisen};
 ghost use Rattle.store_folder.specs.Moments.{LeavesOnly};
 ghost use Rattle.store_format.specs.Block.{damaged};
@@ -14,7 +15,7 @@ ghost use Rattle.segmented_log.specs.Compacting.{CanFollow, CoversFirst, IsPasse
 ghost use Rattle.segmented_log.specs.Compacting.{IsStep, Compacts, IsCompacted, ChangesSegments};
 ghost use Rattle.segmented_log.specs.Joining.{JoinsSome, AreJoinedFrom};
 ghost use Rattle.segmented_log.specs.Opening.{HasSegments};
-ghost use Rattle.segmented_log.specs.Causes.{IsOfJoins, HasTooLong, IsFault};
+ghost use Rattle.segmented_log.specs.Causes.{IsOfJoins, HasTooLong, IsFault, IsFailure};
 
 use crate::dropping::remove_segment;
 use crate::error::LogError;
@@ -220,7 +221,7 @@ impl<F: ReadableFolder> SegmentedLog<F> {
             (IsLog self.old.first self.old.slots) }
         ensures files { IsTrue F.honest → ChangesSegments (F.seen self.old.folder) (F.seen self.new.folder) }
         ensures failures { F.failures self.old.folder ≤ F.failures self.new.folder }
-        ensures failed { IsErrOf result LogError.Failed
+        ensures failed { IsErrAnd result IsFailure
             → HasRisen (F.failures self.old.folder) (F.failures self.new.folder) }
         ensures kind { IfErr result IsFault }
     {
@@ -257,7 +258,7 @@ impl<F: ReadableFolder> SegmentedLog<F> {
             (IsLog self.old.first self.old.slots) }
         ensures files { IsTrue F.honest → ChangesSegments (F.seen self.old.folder) (F.seen self.new.folder) }
         ensures failures { F.failures self.old.folder ≤ F.failures self.new.folder }
-        ensures failed { IsTrue F.honest → IsErrOf result LogError.Failed
+        ensures failed { IsTrue F.honest → IsErrAnd result IsFailure
             → HasRisen (F.failures self.old.folder) (F.failures self.new.folder)
             ⊎ HasSegments (F.seen self.old.folder) }
         ensures damaged { IsTrue F.honest → IsErrOf result LogError.Damaged
@@ -326,7 +327,7 @@ impl<F: ReadableFolder> SegmentedLog<F> {
         ensures failures { F.failures self.old.folder ≤ F.failures self.new.folder }
 
         // Where no call of the folder failed, there is a segment, whose file was not opened or read.
-        ensures failed { IsTrue F.honest → IsErrOf result LogError.Failed
+        ensures failed { IsTrue F.honest → IsErrAnd result IsFailure
             → HasRisen (F.failures self.old.folder) (F.failures self.new.folder)
             ⊎ HasSegments (F.seen self.old.folder) }
         ensures damaged { IsTrue F.honest → IsErrOf result LogError.Damaged

@@ -2,13 +2,14 @@
 
 ghost use Rattle.std.specs.Prelude.{◌≡◌, ◌⊎◌, ◌↔◌, false, ◌≤◌, ◌<◌, ◌^◌, ℕ, List, None, map, All, IsTrue};
 ghost use Rattle.std.specs.Prelude.{IfOk, IfErr, IfSome, IfNone, OnOk, OnErr, IsErrOf};
+ghost use Rattle.std.specs.Result.{IsErrAnd};
 ghost use Rattle.store_base.specs.Counts.{HasRisen};
 ghost use Rattle.store_folder.specs.Moments.{ComesFrom, LeavesOnly};
 ghost use Rattle.store_folder.specs.Folder.{Elsewhere, EntriesStayElsewhere, FilesElsewhere, LosesFile, Keeps};
 ghost use Rattle.segmented_log.specs.Names.{segment_name};
 ghost use Rattle.segmented_log.specs.Parts.{part_of};
 ghost use Rattle.segmented_log.specs.Dropping.{CanGo, IsRest, DropsTo, LosesSegment, RemovesOnly, IsDropped};
-ghost use Rattle.segmented_log.specs.Causes.{IsFault};
+ghost use Rattle.segmented_log.specs.Causes.{IsFault, IsFailure};
 ghost use Rattle.store_folder.specs.Calls.{doing_of, IsApart};
 ghost use Rattle.segmented_log.specs.CallLists.{removing};
 
@@ -71,7 +72,7 @@ pub(crate) fn remove_segment<F: Folder>(
     ensures any_moment { IsTrue F.honest → LeavesOnly F.moment F.left_since folder.old folder.new
         (LosesSegment (F.may_leave folder.old) first) }
     ensures failures { F.failures folder.old ≤ F.failures folder.new }
-    ensures failed { IsErrOf result LogError.Failed → HasRisen (F.failures folder.old) (F.failures folder.new) }
+    ensures failed { IsErrAnd result IsFailure → HasRisen (F.failures folder.old) (F.failures folder.new) }
     ensures kind { IfErr result IsFault }
 {
     let name = segment_file(alloc, first)?;
@@ -100,7 +101,7 @@ impl<F: ReadableFolder> SegmentedLog<F> {
         ensures stays { IsTrue F.honest → IfOk result (λ removed. removed ≡ false
             → IsDropped self.new.first number (F.seen self.new.folder)) }
         ensures failures { F.failures self.old.folder ≤ F.failures self.new.folder }
-        ensures failed { IsErrOf result LogError.Failed
+        ensures failed { IsErrAnd result IsFailure
             → HasRisen (F.failures self.old.folder) (F.failures self.new.folder) }
         ensures kind { IfErr result IsFault }
     {
@@ -143,7 +144,7 @@ impl<F: ReadableFolder> SegmentedLog<F> {
         ensures err { OnErr result (IsTrue self.new.is_broken) }
         ensures same { IsTrue self.old.is_broken → self.new ≡ self.old }
         ensures failures { F.failures self.old.folder ≤ F.failures self.new.folder }
-        ensures failed { IsErrOf result LogError.Failed
+        ensures failed { IsErrAnd result IsFailure
             → HasRisen (F.failures self.old.folder) (F.failures self.new.folder) }
         ensures kind { IfErr result (λ e. (e ≡ LogError.Broken) ⊎ IsFault e) }
     {

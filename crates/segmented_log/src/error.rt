@@ -9,12 +9,14 @@ use std::io::ErrorKind;
 use std::{fmt, io};
 
 /// Why a call failed on a log or on its folder.
-#[derive(Clone, Copy, Debug, PartialEq, Eq)]
+#[derive(Clone, Copy, Debug)]
 pub enum LogError {
     /// A growth was refused.
     Memory,
-    /// A call of the folder failed, or a read of one of its files.
-    Failed,
+    /// A call of the folder failed, or a read of one of its files: what the system said.
+    Failed(io::Error),
+    /// A sync of a segment failed, or its writer was killed in it, so the disk may not have what is read of it.
+    Unsynced,
     /// The log's numbers are used up, its tail is as long as it can be, or a store takes no more of its records.
     Full,
     /// The batch is as long as it can be: sync first.
@@ -37,8 +39,9 @@ pub enum LogError {
 impl fmt::Display for LogError {
     fn fmt<W: fmt::Write>(&self, f: &mut fmt::Formatter<W>) -> fmt::Result {
         f.write_str(match self {
+            LogError::Failed(reason) => return reason.fmt(f),
             LogError::Memory => "no memory",
-            LogError::Failed => "a read or a write failed",
+            LogError::Unsynced => "a sync of a segment has failed",
             LogError::Full => "the log is full",
             LogError::BatchFull => "the batch is full",
             LogError::TooLong => "the record is too long",
@@ -70,16 +73,15 @@ impl<T: Drop> From<AllocFailed<T>> for LogError {
 }
 
 impl From<io::Error> for LogError {
-    ghost use Rattle.std.specs.IoError.{error_kind};
-    ghost use Rattle.segmented_log.specs.Causes.{IsOfKind};
+    ghost use Rattle.segmented_log.specs.Causes.{IsOfSystem};
 
-    ghost from_gives = { λ error e. IsOfKind (error_kind error) e };
+    ghost from_gives = { λ error e. IsOfSystem error e };
 
     fn from(error: io::Error) -> Self {
         if error.kind() == ErrorKind::OutOfMemory {
             LogError::Memory
         } else {
-            LogError::Failed
+            LogError::Failed(error)
         }
     }
 }

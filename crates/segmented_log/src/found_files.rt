@@ -2,13 +2,14 @@
 
 ghost use Rattle.std.specs.Prelude.{◌≡◌, ◌⊎◌, ◌≤◌, ℕ, List, Some, map, string_bytes, IsTrue, IsSome, IfOk, IfErr, OnOk};
 ghost use Rattle.std.specs.Prelude.{OnErr, IsErrOf};
+ghost use Rattle.std.specs.Result.{IsErrAnd};
 ghost use Rattle.store_base.specs.Counts.{HasRisen};
 ghost use Rattle.store_folder.specs.Moments.{LeavesOnly, NoMore};
 ghost use Rattle.store_folder.specs.Folder.{AreNames, EntriesAreKept, EntriesStay};
 ghost use Rattle.segmented_log.specs.Names.{tail_name};
 ghost use Rattle.segmented_log.specs.Opening.{IsOfLog, IsSyncedButTail, HasSegments, KeepsButFailed, CanSyncTail};
 ghost use Rattle.segmented_log.specs.Settled.{TailIsKept};
-ghost use Rattle.segmented_log.specs.Causes.{IsFault};
+ghost use Rattle.segmented_log.specs.Causes.{IsFault, IsFailure};
 
 use crate::error::LogError;
 use crate::names::TAIL;
@@ -53,7 +54,7 @@ fn sync_found_file<F: Folder>(
     ensures any_moment { IsTrue F.honest
         → LeavesOnly F.moment F.left_since folder.old folder.new (F.may_leave folder.old) }
     ensures failures { F.failures folder.old ≤ F.failures folder.new }
-    ensures failed { IsTrue F.honest → IsErrOf result LogError.Failed
+    ensures failed { IsTrue F.honest → IsErrAnd result IsFailure
         → HasRisen (F.failures folder.old) (F.failures folder.new) ⊎ HasSegments (F.seen folder.old) }
     ensures kind { IfErr result IsFault }
 {
@@ -67,7 +68,7 @@ fn sync_found_file<F: Folder>(
     if name == TAIL {
         return Ok(false);
     }
-    Err(LogError::Failed)
+    Err(LogError::Unsynced)
 }
 
 // Syncs the folder, if it needs that.
@@ -116,7 +117,7 @@ pub(crate) fn sync_found_files<F: Folder>(
     ensures any_moment { IsTrue F.honest
         → LeavesOnly F.moment F.left_since folder.old folder.new (F.may_leave folder.old) }
     ensures failures { F.failures folder.old ≤ F.failures folder.new }
-    ensures failed { IsTrue F.honest → IsErrOf result LogError.Failed
+    ensures failed { IsTrue F.honest → IsErrAnd result IsFailure
         → HasRisen (F.failures folder.old) (F.failures folder.new) ⊎ HasSegments (F.seen folder.old) }
     ensures kind { IfErr result IsFault }
 {

@@ -2,13 +2,14 @@
 
 ghost use Rattle.std.specs.Prelude.{◌≡◌, ◌≢◌, ◌⊎◌, ◌≤◌, ℕ, List, Some, map, string_bytes, IsTrue, IfOk, IfErr, OnOk};
 ghost use Rattle.std.specs.Prelude.{OnErr, IsErrOf};
+ghost use Rattle.std.specs.Result.{IsErrAnd};
 ghost use Rattle.store_base.specs.Counts.{HasRisen};
 ghost use Rattle.store_folder.specs.Moments.{LeavesOnly, NoMore};
 ghost use Rattle.store_folder.specs.Folder.{AreNames, bytes_of};
 ghost use Rattle.segmented_log.specs.Names.{tail_name};
 ghost use Rattle.segmented_log.specs.Opening.{IsSyncedButTail, HasSegments, KeepsButFailed};
 ghost use Rattle.segmented_log.specs.Settled.{TailIsKept};
-ghost use Rattle.segmented_log.specs.Causes.{IsFault};
+ghost use Rattle.segmented_log.specs.Causes.{IsFault, IsFailure};
 
 use crate::error::LogError;
 use crate::found_files::sync_found_files;
@@ -61,7 +62,7 @@ pub(crate) fn find_log<F: ReadableFolder>(
     ensures any_moment { IsTrue F.honest
         → LeavesOnly F.moment F.left_since folder.old folder.new (F.may_leave folder.old) }
     ensures failures { F.failures folder.old ≤ F.failures folder.new }
-    ensures failed { IsTrue F.honest → IsTrue F.is_readable → IsErrOf result LogError.Failed
+    ensures failed { IsTrue F.honest → IsTrue F.is_readable → IsErrAnd result IsFailure
         → HasRisen (F.failures folder.old) (F.failures folder.new) ⊎ HasSegments (F.seen folder.old) }
     ensures kind { IfErr result IsFault }
 {

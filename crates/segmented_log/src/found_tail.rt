@@ -1,11 +1,12 @@
 //! The tail that an opening finds is looked at before it is synced.
 
 ghost use Rattle.std.specs.Prelude.{◌≡◌, ℕ, List, Some, IsTrue, IfOk, IfErr, IsErrOf};
+ghost use Rattle.std.specs.Result.{IsErrAnd};
 ghost use Rattle.store_folder.specs.Folder.{bytes_of};
 ghost use Rattle.log_tail.specs.Tail.{first_of, IsTail};
 ghost use Rattle.segmented_log.specs.Names.{tail_name};
 ghost use Rattle.segmented_log.specs.Opening.{HasDamage, HasDamagedTail, CanSyncTail};
-ghost use Rattle.segmented_log.specs.Causes.{IsFault};
+ghost use Rattle.segmented_log.specs.Causes.{IsFault, IsFailure};
 
 use crate::error::LogError;
 use crate::names::TAIL;
@@ -52,7 +53,7 @@ pub(crate) fn find_tail<F: ReadableFolder>(alloc: Global, folder: &F) -> Result<
     ensures whole { IsTrue F.honest → IfOk result (λ t. IsTrue t.is_whole → HasDamagedTail (F.seen folder.now) → ⊥) }
     ensures tail { IsTrue F.honest → IfOk result (λ t. IsTrue t.is_whole → (bytes : List ℕ)
         × (F.seen folder.now tail_name ≡ Some bytes) × IsTail bytes) }
-    ensures failed { IsTrue F.is_readable → IsErrOf result LogError.Failed → ⊥ }
+    ensures failed { IsTrue F.is_readable → IsErrAnd result IsFailure → ⊥ }
     ensures kind { IfErr result IsFault }
 {
     match folder.read(alloc, TAIL)? {

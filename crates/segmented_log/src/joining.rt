@@ -26,9 +26,10 @@ use crate::error::LogError;
 use crate::names::segment_file;
 use crate::sealing::BLOCK_SIZE;
 use crate::segment::{Segment, open_segment, reopen_error};
-use docstore::{FileHandle, StoreError, StoreWriter, TerminatingWrite, USUAL_PERIOD, laws};
+use docstore::{StoreError, StoreWriter, TerminatingWrite, USUAL_PERIOD, laws};
 use std::alloc::Global;
-use std::mem;
+use std::io::ErrorKind;
+use std::{io, mem};
 use store_folder::ReadableFolder;
 use store_merge::{MergeInput, merge_in_parts};
 use store_published::{FillError, Filling, publish_store};
@@ -36,25 +37,33 @@ use store_published::{FillError, Filling, publish_store};
 /// How many bytes of a segment are read at a time.
 const PART_BYTES: usize = 1 << 20;
 
+// Why segments could not be joined, and what the system said of the file of the one that was being read.
+#[derive(Drop)]
+struct JoinError {
+    error: StoreError,
+    reason: io::Error,
+}
+
 // Why segments could not be joined.
-fn join_error(error: StoreError) -> LogError
-    ensures full { result ≡ LogError.Full → (error ≡ StoreError.TooManyDocs) ⊎ (error ≡ StoreError.BlockTooLarge) }
-    ensures damaged { result ≡ LogError.Damaged → IsDamaged error }
+fn join_error(refusal: JoinError) -> LogError
+    ensures full { result ≡ LogError.Full
+        → (refusal.error ≡ StoreError.TooManyDocs) ⊎ (refusal.error ≡ StoreError.BlockTooLarge) }
+    ensures damaged { result ≡ LogError.Damaged → IsDamaged refusal.error }
     ensures kind { IsOfJoins result }
 {
-    match error {
+    match refusal.error {
         StoreError::Memory | StoreError::Failed(_) => LogError::Memory,
         StoreError::TooManyDocs | StoreError::BlockTooLarge => LogError::Full,
         StoreError::DamagedDocument(_) => LogError::Damaged,
-        _ => LogError::Failed,
+        _ => LogError::Failed(refusal.reason),
     }
 }
 
 // Why the store of a segment that joins others was not published.
-fn joining_error(error: FillError<StoreError>) -> LogError
+fn joining_error(error: FillError<JoinError>) -> LogError
     ensures full { result ≡ LogError.Full → IsFillingOf (λ e.
-        (e ≡ StoreError.TooManyDocs) ⊎ (e ≡ StoreError.BlockTooLarge)) error }
-    ensures damaged { result ≡ LogError.Damaged → IsFillingOf IsDamaged error }
+        (e.error ≡ StoreError.TooManyDocs) ⊎ (e.error ≡ StoreError.BlockTooLarge)) error }
+    ensures damaged { result ≡ LogError.Damaged → IsFillingOf (λ e. IsDamaged e.error) error }
     ensures kind { IsOfJoins result }
 {
     match error {
@@ -117,12 +126,20 @@ fn open_inputs<F: ReadableFolder>(
     Ok(inputs)
 }
 
+// What the system said of the file of an input that was being read.
+fn read_error<F: ReadableFolder>(inputs: &[MergeInput<F::File>], input: usize) -> io::Error {
+    match inputs.get(input) {
+        Some(input) => F::read_error(input.reader.file()),
+        None => ErrorKind::Other.into(),
+    }
+}
+
 // Puts the records of these inputs into a new store.
-fn merge_all<W: TerminatingWrite, H: FileHandle>(
+fn merge_all<W: TerminatingWrite, F: ReadableFolder>(
     alloc: Global,
     writer: &mut StoreWriter<W>,
-    inputs: &mut [MergeInput<H>],
-) -> Result<(), StoreError>
+    inputs: &mut [MergeInput<F::File>],
+) -> Result<(), JoinError>
     requires new { taken writer.old ≡ [] }
     requires no_blocks { writer.old.output.finished ≡ [] }
     requires sets { AllByRecursion HasWholeSet inputs.old }
@@ -131,25 +148,28 @@ fn merge_all<W: TerminatingWrite, H: FileHandle>(
     ensures cut { OnOk result (AreMerged writer.old.block_size inputs.old (blocks_in writer.new)) }
     ensures file { OnOk result (IsSameFile writer.old writer.new) }
     ensures refused { IfErr result (λ e. AllByRecursion IsHonest inputs.old → AllByRecursion IsWhole inputs.old
-        → RefusesJoin writer.old.block_size (flat_map alive_slots inputs.old) e) }
+        → RefusesJoin writer.old.block_size (flat_map alive_slots inputs.old) e.error) }
 {
     laws::ids_are_given_in_order();
     laws::stacked_slots_are_counted();
     match merge_in_parts(alloc, writer, inputs, PART_BYTES) {
         Ok(()) => Ok(()),
-        Err(refusal) => Err(refusal.error),
+        Err(refusal) => Err(JoinError {
+            error: refusal.error,
+            reason: read_error::<F>(inputs, refusal.input),
+        }),
     }
 }
 
 // Segments, opened once more, as what fills the store of one that has all their records.
 #[derive(Drop)]
-struct JoinedSegments<H: FileHandle> {
+struct JoinedSegments<F: ReadableFolder> {
     alloc: Global,
-    inputs: Vec<MergeInput<H>>,
+    inputs: Vec<MergeInput<F::File>>,
     ghost none: { All (λ x. IsTrue (is_none x.alive)) inputs.items },
 }
 
-impl<H: FileHandle> Filling for JoinedSegments<H> {
+impl<F: ReadableFolder> Filling for JoinedSegments<F> {
     ghost use Rattle.std.specs.Prelude.{◌≡◌};
     ghost use Rattle.std.specs.List.{AllByRecursion, flat_map};
     ghost use Rattle.store_merge.specs.Choice.{alive_slots};
@@ -157,7 +177,7 @@ impl<H: FileHandle> Filling for JoinedSegments<H> {
     ghost use Rattle.segmented_log.specs.Compacting.{IsWhole};
     ghost use Rattle.segmented_log.specs.Joining.{AreMerged, RefusesJoin};
 
-    type Error = StoreError;
+    type Error = JoinError;
 
     ghost brings = { λ old new slots. AllByRecursion IsHonest old.inputs.items
         → slots ≡ flat_map alive_slots old.inputs.items };
@@ -166,11 +186,11 @@ impl<H: FileHandle> Filling for JoinedSegments<H> {
 
     ghost refuses = { λ old new block_size e. AllByRecursion IsHonest old.inputs.items
         → AllByRecursion IsWhole old.inputs.items
-        → RefusesJoin block_size (flat_map alive_slots old.inputs.items) e };
+        → RefusesJoin block_size (flat_map alive_slots old.inputs.items) e.error };
 
-    fn fill<W: TerminatingWrite>(&mut self, writer: &mut StoreWriter<W>) -> Result<(), StoreError> {
+    fn fill<W: TerminatingWrite>(&mut self, writer: &mut StoreWriter<W>) -> Result<(), JoinError> {
         let mut inputs = mem::replace(&mut self.inputs, Vec::new(self.alloc));
-        merge_all(self.alloc, writer, &mut inputs)
+        merge_all::<W, F>(self.alloc, writer, &mut inputs)
     }
 }
 
@@ -206,7 +226,7 @@ fn publish_joined<F: ReadableFolder>(
     ensures kind { IfErr result IsOfJoins }
 {
     let name = segment_file(alloc, first)?;
-    let mut joined = JoinedSegments { alloc, inputs };
+    let mut joined: JoinedSegments<F> = JoinedSegments { alloc, inputs };
     match publish_store(
         alloc,
         folder,

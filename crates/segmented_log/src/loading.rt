@@ -2,6 +2,7 @@
 
 ghost use Rattle.std.specs.Prelude.{◌≡◌, ◌≢◌, false, ◌≤◌, ◌<◌, ◌^◌, ◌+◌, ◌++◌, ℕ, List, [], Some, None, length, map};
 ghost use Rattle.std.specs.Prelude.{◌⊎◌, All, string_bytes, IsTrue, IfOk, IfErr, OnOk, OnErr, IsErrOf};
+ghost use Rattle.std.specs.Result.{IsErrAnd};
 ghost use Rattle.store_base.specs.Counts.{HasRisen};
 ghost use Rattle.store_folder.specs.Moments.{ComesFrom, LeavesOnly};
 ghost use Rattle.store_folder.specs.Folder.{ElsewhereOfBoth, AreNames, bytes_of};
@@ -14,7 +15,7 @@ ghost use Rattle.segmented_log.specs.Opening.{IsSyncedButTail, IsOldOrSeen, IsNo
 ghost use Rattle.segmented_log.specs.Opening.{HasSegments, IsTailOf, IsNoTail, HasDamagedTail, HasSoundTail};
 ghost use Rattle.segmented_log.specs.Opening.{KeepsButFailed};
 ghost use Rattle.segmented_log.specs.Settled.{IsReadTail, TailIsKept, IsSettledTail, IsSettledFolder};
-ghost use Rattle.segmented_log.specs.Causes.{IsOfTails, IsOfOpenings};
+ghost use Rattle.segmented_log.specs.Causes.{IsOfTails, IsOfOpenings, IsFailure};
 
 use crate::commit::Commit;
 use crate::error::LogError;
@@ -67,7 +68,7 @@ fn load_tail<F: Folder>(
     ensures damaged { IsTrue F.honest → IsErrOf result LogError.DamagedTail → HasDamagedTail (F.seen folder.old) }
     ensures sound { IsTrue F.honest → cut ≢ Cut.Damage → OnOk result (HasSoundTail (F.seen folder.old)) }
     ensures failures { F.failures folder.old ≤ F.failures folder.new }
-    ensures failed { IsErrOf result LogError.Failed → HasRisen (F.failures folder.old) (F.failures folder.new) }
+    ensures failed { IsErrAnd result IsFailure → HasRisen (F.failures folder.old) (F.failures folder.new) }
     ensures kind { IfErr result IsOfTails }
 {
     match found {
@@ -94,7 +95,7 @@ pub(crate) fn assemble<H: FileHandle>(
     ensures no_log { IsErrOf result LogError.NoLog → (first : ℕ)
         → AreParts first (map (λ s. part_of s.first s.reader) segments.items) tail.bytes.items → ⊥ }
     ensures full { IsErrOf result LogError.Full → 2 ^ 64 ≤ tail_end tail.bytes.items }
-    ensures failed { IsErrOf result LogError.Failed → ⊥ }
+    ensures failed { IsErrAnd result IsFailure → ⊥ }
     ensures damaged { IsErrOf result LogError.DamagedTail → ⊥ }
     ensures kind { IfErr result IsOfOpenings }
 {
@@ -152,7 +153,7 @@ fn load_synced<F: ReadableFolder>(
     ensures elsewhere { IsTrue F.honest → ElsewhereOfBoth (tail_name ++ part) tail_name
         (F.seen folder.old) (F.seen folder.new) }
     ensures failures { F.failures folder.old ≤ F.failures folder.new }
-    ensures failed { IsTrue F.honest → IsTrue F.is_readable → IsErrOf result LogError.Failed
+    ensures failed { IsTrue F.honest → IsTrue F.is_readable → IsErrAnd result IsFailure
         → HasRisen (F.failures folder.old) (F.failures folder.new) ⊎ HasSegments (F.seen folder.old) }
     ensures kind { IfErr result IsOfOpenings }
 {
@@ -187,7 +188,7 @@ fn load<F: ReadableFolder>(alloc: Global, folder: &mut F) -> Result<Parts<F::Fil
     ensures elsewhere_err { IsTrue F.honest → OnErr result (KeepsButFailed
         (F.failures folder.old) (F.failures folder.new) (F.seen folder.old) (F.seen folder.new)) }
     ensures failures { F.failures folder.old ≤ F.failures folder.new }
-    ensures failed { IsTrue F.honest → IsTrue F.is_readable → IsErrOf result LogError.Failed
+    ensures failed { IsTrue F.honest → IsTrue F.is_readable → IsErrAnd result IsFailure
         → HasRisen (F.failures folder.old) (F.failures folder.new) ⊎ HasSegments (F.seen folder.old) }
     ensures kind { IfErr result IsOfOpenings }
 {
@@ -254,7 +255,7 @@ impl<F: ReadableFolder> SegmentedLog<F> {
 
         // What is cut off the tail is one batch that was not finished, and the first number is that of the first head.
         ensures sound { IsTrue F.honest → IfOk result (λ _. HasSoundTail (F.seen folder)) }
-        ensures failed { IsTrue F.honest → IsTrue F.is_readable → IfErr result (λ e. e.0 ≡ LogError.Failed
+        ensures failed { IsTrue F.honest → IsTrue F.is_readable → IfErr result (λ e. IsFailure e.0
             → HasRisen (F.failures folder) (F.failures e.1) ⊎ HasSegments (F.seen folder)) }
         ensures kind { IfErr result (λ e. IsOfOpenings e.0) }
     {

@@ -2,11 +2,12 @@
 
 ghost use Rattle.std.specs.Prelude.{◌≡◌, ◌⊎◌, ◌↔◌, false, ◌≤◌, ◌<◌, ◌+◌, ◌^◌, ◌++◌, ◌∷◌, [], ℕ, List, length, map};
 ghost use Rattle.std.specs.Prelude.{IfOk, IfErr, OnOk, OnErr, IsErrOf, IsTrue};
+ghost use Rattle.std.specs.Result.{IsErrAnd};
 ghost use Rattle.store_base.specs.Counts.{HasRisen};
 ghost use Rattle.store_folder.specs.Folder.{Look};
 ghost use Rattle.segmented_log.specs.Parts.{end_from, parts_of};
 ghost use Rattle.segmented_log.specs.Log.{IsLog, slot_at, Gives, IsOnlyRead};
-ghost use Rattle.segmented_log.specs.Causes.{IsOfReads, IsOfAppends};
+ghost use Rattle.segmented_log.specs.Causes.{IsOfReads, IsOfAppends, IsFailure};
 
 use crate::commit::Commit;
 use crate::error::LogError;
@@ -180,11 +181,11 @@ impl<F: ReadableFolder> SegmentedLog<F> {
         ensures broken { IsErrOf result LogError.Broken ↔ IsTrue self.old.is_broken }
 
         // A read of a segment failed, and the segments have the number.
-        ensures failed { IsTrue F.honest → IsErrOf result LogError.Failed
+        ensures failed { IsTrue F.honest → IsErrAnd result IsFailure
             → HasRisen self.old.read_failures self.new.read_failures }
-        ensures sealed { IsTrue F.honest → IsErrOf result LogError.Failed
+        ensures sealed { IsTrue F.honest → IsErrAnd result IsFailure
             → number < end_from self.old.first (parts_of self.old.segments) }
-        ensures steady { IsErrOf result LogError.Failed ⊎ (self.new.read_failures ≡ self.old.read_failures) }
+        ensures steady { IsErrAnd result IsFailure ⊎ (self.new.read_failures ≡ self.old.read_failures) }
         ensures kind { IfErr result (λ e. (e ≡ LogError.Broken) ⊎ IsOfReads e) }
     {
         if self.is_broken {
@@ -196,7 +197,7 @@ impl<F: ReadableFolder> SegmentedLog<F> {
             tail_first: self.tail_first,
             may_overlap: self.may_overlap,
         };
-        get_record(
+        get_record::<F>(
             self.alloc,
             &mut self.segments,
             self.tail.bytes(),

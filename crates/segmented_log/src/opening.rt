@@ -4,12 +4,13 @@ ghost use Rattle.std.specs.Prelude.{◌≡◌, ◌≤◌, ◌<◌, ◌++◌, ◌
 ghost use Rattle.std.specs.Prelude.{◌^◌, IfOk, IfErr, IfSome, IfNone, OnOk, IsErrOf};
 ghost use Rattle.std.specs.List.{Contains};
 ghost use Rattle.std.specs.List.Sorted.{IsStrictlyIncreasing};
+ghost use Rattle.std.specs.Result.{IsErrAnd};
 ghost use Rattle.segmented_log.specs.Parts.{part_of, end_from, AreInLine, Ascend};
 ghost use Rattle.segmented_log.specs.Log.{HasSegment};
 ghost use Rattle.store_folder.specs.Folder.{AreNames};
 ghost use Rattle.segmented_log.specs.Opening.{AreNumbersIn, IsNoSegment, IsNoLog, HasSegments};
 ghost use Rattle.segmented_log.specs.Dropping.{AreOfOneLog, HasOnly};
-ghost use Rattle.segmented_log.specs.Causes.{IsOfFiles};
+ghost use Rattle.segmented_log.specs.Causes.{IsOfFiles, IsFailure};
 
 use crate::error::LogError;
 use crate::numbers::segment_number;
@@ -76,7 +77,7 @@ fn open_segments<F: ReadableFolder>(
     ensures honest { IsTrue F.honest → IfOk result (λ s. All (λ x. IsTrue x.reader.file.honest) s.items) }
     ensures no_log { IsTrue F.honest → IsErrOf result LogError.NoLog
         → (k : ℕ) × Contains numbers.now k × IsNoSegment (F.seen folder.now) k }
-    ensures failed { IsErrOf result LogError.Failed → 0 < length numbers.now }
+    ensures failed { IsErrAnd result IsFailure → 0 < length numbers.now }
     ensures kind { IfErr result IsOfFiles }
 {
     let mut segments = Vec::new(alloc);
@@ -121,7 +122,7 @@ pub(crate) fn open_all<F: ReadableFolder>(
         (F.seen folder.now)) }
     ensures honest { IsTrue F.honest → IfOk result (λ s. All (λ x. IsTrue x.reader.file.honest) s.items) }
     ensures no_log { IsTrue F.honest → IsErrOf result LogError.NoLog → IsNoLog (F.seen folder.now) }
-    ensures failed { IsTrue F.honest → IsErrOf result LogError.Failed → HasSegments (F.seen folder.now) }
+    ensures failed { IsTrue F.honest → IsErrAnd result IsFailure → HasSegments (F.seen folder.now) }
     ensures kind { IfErr result IsOfFiles }
 {
     laws::stores_are_apart();

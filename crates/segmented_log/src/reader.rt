@@ -2,6 +2,7 @@
 
 ghost use Rattle.std.specs.Prelude.{◌≡◌, ◌⊎◌, false, ◌≤◌, ◌+◌, ℕ, List, [], Some, None, length, map, string_bytes, All};
 ghost use Rattle.std.specs.Prelude.{IsTrue, IfOk, IfErr, OnOk, OnErr, IsErrOf};
+ghost use Rattle.std.specs.Result.{IsErrAnd};
 ghost use Rattle.store_base.specs.Counts.{HasRisen};
 ghost use Rattle.store_folder.specs.Folder.{AreNames};
 ghost use Rattle.store_format.specs.Block.{Slot};
@@ -10,7 +11,7 @@ ghost use Rattle.segmented_log.specs.Parts.{part_of, end_from, log_slots, ArePar
 ghost use Rattle.segmented_log.specs.Log.{IsLog, slot_at, Gives};
 ghost use Rattle.segmented_log.specs.Opening.{HasFullTail, HasSegments, HasDamagedTail, HasSoundTail};
 ghost use Rattle.segmented_log.specs.Settled.{IsSettledTail};
-ghost use Rattle.segmented_log.specs.Causes.{IsOfFiles, IsOfReads, IsOfReaders};
+ghost use Rattle.segmented_log.specs.Causes.{IsOfFiles, IsOfReads, IsOfReaders, IsFailure};
 
 use crate::error::LogError;
 use crate::found_log::found_cut;
@@ -77,7 +78,7 @@ fn read_at_once<F: ReadableFolder>(
     ensures tail { IsTrue F.honest → IfOk result (λ r. F.seen folder.now tail_name ≡ Some r.1.items) }
     ensures no_log { IsTrue F.honest → IsErrOf result LogError.NoLog → F.seen folder.now tail_name ≡ None }
     ensures changed { IsTrue F.honest → IsErrOf result LogError.Changed → ⊥ }
-    ensures failed { IsTrue F.is_readable → IsErrOf result LogError.Failed → ⊥ }
+    ensures failed { IsTrue F.is_readable → IsErrAnd result IsFailure → ⊥ }
     ensures kind { IfErr result (λ e. (e ≡ LogError.Changed) ⊎ IsOfFiles e) }
 {
     let names = folder.names(alloc)?;
@@ -111,7 +112,7 @@ fn read_parts<F: ReadableFolder>(alloc: Global, folder: &F) -> Result<ReadParts<
         → IsLog first all (F.seen folder.now) → ⊥ }
     ensures full { IsTrue F.honest → IsErrOf result LogError.Full → HasFullTail (F.seen folder.now) }
     ensures changed { IsTrue F.honest → IsErrOf result LogError.Changed → ⊥ }
-    ensures failed { IsTrue F.honest → IsTrue F.is_readable → IsErrOf result LogError.Failed
+    ensures failed { IsTrue F.honest → IsTrue F.is_readable → IsErrAnd result IsFailure
         → HasSegments (F.seen folder.now) }
     ensures kind { IfErr result IsOfReaders }
 {
@@ -153,7 +154,7 @@ impl<F: ReadableFolder> LogReader<F> {
         // A folder that nothing changes is never taken for one that changes. Where it is read, and its log is not, the
         // file of a segment was not.
         ensures changed { IsTrue F.honest → IsErrOf result LogError.Changed → ⊥ }
-        ensures failed { IsTrue F.honest → IsTrue F.is_readable → IsErrOf result LogError.Failed
+        ensures failed { IsTrue F.honest → IsTrue F.is_readable → IsErrAnd result IsFailure
             → HasSegments (F.seen folder.now) }
         ensures kind { IfErr result IsOfReaders }
     {
@@ -227,12 +228,12 @@ impl<F: ReadableFolder> LogReader<F> {
         ensures found { IsTrue F.honest → Gives (slot_at self.old.first self.old.slots number) result }
         ensures same { self.new ≡ record self.old { read_failures = self.new.read_failures } }
         ensures count { self.old.read_failures ≤ self.new.read_failures }
-        ensures failed { IsTrue F.honest → IsErrOf result LogError.Failed
+        ensures failed { IsTrue F.honest → IsErrAnd result IsFailure
             → HasRisen self.old.read_failures self.new.read_failures }
-        ensures steady { IsErrOf result LogError.Failed ⊎ (self.new.read_failures ≡ self.old.read_failures) }
+        ensures steady { IsErrAnd result IsFailure ⊎ (self.new.read_failures ≡ self.old.read_failures) }
         ensures kind { IfErr result IsOfReads }
     {
-        get_record(
+        get_record::<F>(
             self.alloc,
             &mut self.segments,
             &self.tail,

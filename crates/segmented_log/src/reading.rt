@@ -4,6 +4,7 @@ ghost use Rattle.std.specs.Prelude.{◌≡◌, ◌≢◌, ◌⊎◌, ◌≤◌, 
 ghost use Rattle.std.specs.Prelude.{IfOk, HoldsAt, IsErrOf, slice_get};
 ghost use Rattle.std.specs.Bool.{OnFalse};
 ghost use Rattle.std.specs.List.{sum_by};
+ghost use Rattle.std.specs.Result.{IsErrAnd};
 ghost use Rattle.store_base.specs.Counts.{HasRisen};
 ghost use Rattle.store_format.specs.Slots.{slots};
 ghost use Rattle.store_reader.specs.GetAnswer.{AnswersTruly};
@@ -13,7 +14,7 @@ ghost use Rattle.segmented_log.specs.Log.{slot_at, Gives};
 ghost use Rattle.segmented_log.specs.Settled.{IsSettledTail};
 ghost use Rattle.segmented_log.specs.Bounds.{AreBounds};
 ghost use Rattle.segmented_log.specs.Compacting.{AreNext};
-ghost use Rattle.segmented_log.specs.Causes.{IsOfReads, IsDamaged};
+ghost use Rattle.segmented_log.specs.Causes.{IsOfReads, IsDamaged, IsFailure};
 ghost use Rattle.log_tail.specs.Place.{content};
 
 use crate::error::LogError;
@@ -21,6 +22,9 @@ use crate::segment::{Segment, end_of_segment};
 use docstore::{DocId, FileHandle, OwnedBytes, StoreError, StoreReader};
 use log_tail::Place;
 use std::alloc::{AllocError, Global};
+use std::io;
+use std::io::ErrorKind;
+use store_folder::ReadableFolder;
 
 // Whether a segment ends after this number.
 fn ends_after<H: FileHandle>(segment: &Segment<H>, number: u64) -> bool
@@ -95,18 +99,18 @@ fn place_of<H: FileHandle>(segments: &[Segment<H>], may_overlap: bool, number: u
     }
 }
 
-// Why a record of a segment could not be read.
-fn get_error(error: StoreError) -> LogError
+// Why a record of a segment could not be read, of whose file the system said this.
+fn get_error(error: StoreError, reason: io::Error) -> LogError
     ensures damaged { result ≡ LogError.Damaged → IsDamaged error }
-    ensures failed { result ≡ LogError.Failed → (error ≢ StoreError.Memory) × (IsDamaged error → ⊥) }
-    ensures read { error ≡ StoreError.Read → result ≡ LogError.Failed }
+    ensures failed { IsFailure result → (error ≢ StoreError.Memory) × (IsDamaged error → ⊥) }
+    ensures read { error ≡ StoreError.Read → result ≡ LogError.Failed reason }
     ensures memory { result ≡ LogError.Memory → error ≡ StoreError.Memory }
     ensures kind { IsOfReads result }
 {
     match error {
         StoreError::Memory => LogError::Memory,
         StoreError::DamagedDocument(_) => LogError::Damaged,
-        _ => LogError::Failed,
+        _ => LogError::Failed(reason),
     }
 }
 
@@ -133,9 +137,9 @@ fn read_record<H: FileHandle>(
 }
 
 // The record of this number of a segment that has it.
-fn get_in<H: FileHandle>(
+fn get_in<F: ReadableFolder>(
     alloc: Global,
-    segment: &mut Segment<H>,
+    segment: &mut Segment<F::File>,
     number: u64,
 ) -> Result<Option<Vec<u8>>, LogError>
     ensures part { part_of segment.new.first segment.new.reader ≡ part_of segment.old.first segment.old.reader }
@@ -146,28 +150,28 @@ fn get_in<H: FileHandle>(
         → Gives (slice_get (part_of segment.old.first segment.old.reader).slots (number - segment.old.first)) result }
     ensures count { segment.old.reader.file.failures ≤ segment.new.reader.file.failures }
     ensures failed { IsTrue segment.old.reader.file.honest → segment.old.first ≤ number
-        → number < end_of (part_of segment.old.first segment.old.reader) → IsErrOf result LogError.Failed
+        → number < end_of (part_of segment.old.first segment.old.reader) → IsErrAnd result IsFailure
         → HasRisen segment.old.reader.file.failures segment.new.reader.file.failures }
-    ensures steady { IsErrOf result LogError.Failed
+    ensures steady { IsErrAnd result IsFailure
         ⊎ (segment.new.reader.file.failures ≡ segment.old.reader.file.failures) }
     ensures kind { IfErr result IsOfReads }
 {
     if number < segment.first || number - segment.first >= u64::from(segment.reader.num_docs()) {
-        return Err(LogError::Failed);
+        return Err(LogError::Failed(ErrorKind::InvalidInput.into()));
     }
     let id = (number - segment.first) as u32;
     let is_next = id == segment.next;
     segment.next = id + 1;
     match read_record(alloc, &mut segment.reader, id, is_next) {
         Ok(bytes) => Ok(Some(bytes.as_slice().to_vec(alloc)?)),
-        Err(error) => Err(get_error(error)),
+        Err(error) => Err(get_error(error, F::read_error(segment.reader.file()))),
     }
 }
 
 // The record of this number, of the first of these segments that has it.
-fn get_from<H: FileHandle>(
+fn get_from<F: ReadableFolder>(
     alloc: Global,
-    segments: &mut Vec<Segment<H>>,
+    segments: &mut Vec<Segment<F::File>>,
     may_overlap: bool,
     number: u64,
 ) -> Result<Option<Vec<u8>>, LogError>
@@ -188,18 +192,18 @@ fn get_from<H: FileHandle>(
         → AreInLine n (map (λ s. part_of s.first s.reader) segments.old.items)
         → OnFalse may_overlap (AreNext n (map (λ s. part_of s.first s.reader) segments.old.items)) → n ≤ number
         → number < end_from n (map (λ s. part_of s.first s.reader) segments.old.items)
-        → IsErrOf result LogError.Failed → HasRisen (sum_by (λ s. s.reader.file.failures) segments.old.items)
+        → IsErrAnd result IsFailure → HasRisen (sum_by (λ s. s.reader.file.failures) segments.old.items)
         (sum_by (λ s. s.reader.file.failures) segments.new.items) }
-    ensures steady { IsErrOf result LogError.Failed ⊎ (sum_by (λ s. s.reader.file.failures) segments.new.items
+    ensures steady { IsErrAnd result IsFailure ⊎ (sum_by (λ s. s.reader.file.failures) segments.new.items
         ≡ sum_by (λ s. s.reader.file.failures) segments.old.items) }
     ensures kind { IfErr result IsOfReads }
 {
     let i = place_of(segments, may_overlap, number);
     if i >= segments.len() {
-        return Err(LogError::Failed);
+        return Err(LogError::Failed(ErrorKind::InvalidInput.into()));
     }
     let segment = &mut segments[i];
-    get_in(alloc, segment, number)
+    get_in::<F>(alloc, segment, number)
 }
 
 // The record at a place of a tail.
@@ -223,9 +227,9 @@ pub(crate) struct Bounds {
 }
 
 /// The record of this number of a log of these segments, and this tail, whose records lie at these places.
-pub(crate) fn get_record<H: FileHandle>(
+pub(crate) fn get_record<F: ReadableFolder>(
     alloc: Global,
-    segments: &mut Vec<Segment<H>>,
+    segments: &mut Vec<Segment<F::File>>,
     tail: &[u8],
     places: &[Place],
     bounds: Bounds,
@@ -249,10 +253,10 @@ pub(crate) fn get_record<H: FileHandle>(
     // A read of a segment failed, and the segments have the number.
     ensures failed { All (λ s. IsTrue s.reader.file.honest) segments.old.items
         → AreBounds bounds (map (λ s. part_of s.first s.reader) segments.old.items) tail.now
-        → IsErrOf result LogError.Failed → HasRisen (sum_by (λ s. s.reader.file.failures) segments.old.items)
+        → IsErrAnd result IsFailure → HasRisen (sum_by (λ s. s.reader.file.failures) segments.old.items)
         (sum_by (λ s. s.reader.file.failures) segments.new.items) }
-    ensures below { IsErrOf result LogError.Failed → number < bounds.sealed }
-    ensures steady { IsErrOf result LogError.Failed ⊎ (sum_by (λ s. s.reader.file.failures) segments.new.items
+    ensures below { IsErrAnd result IsFailure → number < bounds.sealed }
+    ensures steady { IsErrAnd result IsFailure ⊎ (sum_by (λ s. s.reader.file.failures) segments.new.items
         ≡ sum_by (λ s. s.reader.file.failures) segments.old.items) }
     ensures kind { IfErr result IsOfReads }
 {
@@ -260,7 +264,7 @@ pub(crate) fn get_record<H: FileHandle>(
         return Ok(None);
     }
     if number < bounds.sealed {
-        return get_from(alloc, segments, bounds.may_overlap, number);
+        return get_from::<F>(alloc, segments, bounds.may_overlap, number);
     }
     let index = (number - bounds.tail_first) as usize;
     if index >= places.len() {

@@ -43,10 +43,11 @@ impl<F: ReadableFolder> SegmentedLog<F> {
 }
 
 impl<'a, F: ReadableFolder> Iterator for Records<'a, F> {
-    ghost use Rattle.std.specs.Prelude.{◌≡◌, ◌≤◌, ◌-◌, ◌^◌, false, IsTrue, IfSome, IsErrOf};
+    ghost use Rattle.std.specs.Prelude.{◌≡◌, ◌≤◌, ◌-◌, ◌^◌, false, IsTrue, IfSome};
+    ghost use Rattle.std.specs.Result.{IsErrAnd};
     ghost use Rattle.std.specs.Iterator.{at_most};
     ghost use Rattle.store_base.specs.Counts.{HasRisen};
-    ghost use Rattle.segmented_log.specs.declared.error.LogError.TheVariants.{Failed};
+    ghost use Rattle.segmented_log.specs.Causes.{IsFailure};
     ghost use Rattle.segmented_log.specs.Log.{GivesNext, IsOnlyRead};
 
     type Item = Result<Vec<u8>, LogError>;
@@ -56,7 +57,7 @@ impl<'a, F: ReadableFolder> Iterator for Records<'a, F> {
     ghost remaining = { λ s. at_most (2 ^ 64 - s.next) };
 
     ghost next_gives = { λ s r t. (IsTrue F.honest → GivesNext s.log.now.first s.log.now.slots s.next r t.next)
-        × (IsTrue F.honest → IfSome r (λ item. IsErrOf item Failed
+        × (IsTrue F.honest → IfSome r (λ item. IsErrAnd item IsFailure
         → HasRisen s.log.now.read_failures t.log.now.read_failures))
         × IsOnlyRead s.log.now t.log.now × (t.log.ghost_name ≡ s.log.ghost_name) };
 

@@ -2,6 +2,7 @@
 
 ghost use Rattle.std.specs.Prelude.{◌≡◌, ◌⊎◌, ◌≤◌, ◌<◌, false, ℕ, List, Some, map, string_bytes, IsTrue};
 ghost use Rattle.std.specs.Prelude.{IfOk, IfErr, OnOk, IsErrOf};
+ghost use Rattle.std.specs.Result.{IsErrAnd};
 ghost use Rattle.store_base.specs.Counts.{HasRisen};
 ghost use Rattle.store_folder.specs.Moments.{LeavesOnly};
 ghost use Rattle.store_folder.specs.Folder.{AreNames, Keeps};
@@ -13,7 +14,7 @@ ghost use Rattle.segmented_log.specs.Log.{IsLog};
 ghost use Rattle.segmented_log.specs.Opening.{IsSyncedButTail, IsNoLog, HasSegments, HasDamagedTail};
 ghost use Rattle.segmented_log.specs.Dropping.{DropsTo, RemovesOnly, LosesOld, IsOldWithout, BeginsAt, TailBeginsAt};
 ghost use Rattle.segmented_log.specs.Dropping.{AreOfOneLog, HasOnly, HasNoOld};
-ghost use Rattle.segmented_log.specs.Causes.{IsFault, IsOfFiles};
+ghost use Rattle.segmented_log.specs.Causes.{IsFault, IsOfFiles, IsFailure};
 
 use crate::dropping::{end_of_first, remove_segment};
 use crate::error::LogError;
@@ -51,7 +52,7 @@ fn remove_old<F: ReadableFolder>(
     ensures any_moment { IsTrue F.honest → LeavesOnly F.moment F.left_since folder.old folder.new
         (IsOldWithout number (F.may_leave folder.old)) }
     ensures failures { F.failures folder.old ≤ F.failures folder.new }
-    ensures failed { IsErrOf result LogError.Failed → HasRisen (F.failures folder.old) (F.failures folder.new) }
+    ensures failed { IsErrAnd result IsFailure → HasRisen (F.failures folder.old) (F.failures folder.new) }
     ensures kind { IfErr result IsFault }
 {
     laws::stores_are_apart();
@@ -104,7 +105,7 @@ fn drop_found<F: ReadableFolder>(
     ensures no_log { IsTrue F.honest → IsErrOf result LogError.NoLog → IsNoLog (F.seen folder.old) }
     ensures refused { IsErrOf result LogError.NoLog → folder.new ≡ folder.old }
     ensures failures { F.failures folder.old ≤ F.failures folder.new }
-    ensures failed { IsTrue F.honest → IsErrOf result LogError.Failed
+    ensures failed { IsTrue F.honest → IsErrAnd result IsFailure
         → HasRisen (F.failures folder.old) (F.failures folder.new) ⊎ HasSegments (F.seen folder.old) }
     ensures kind { IfErr result IsOfFiles }
 {
@@ -157,7 +158,7 @@ pub fn drop_segments<F: ReadableFolder>(
     ensures refused { IsTrue F.honest → IsErrOf result LogError.NoLog
         → (n : List ℕ) → F.seen folder.new n ≡ F.seen folder.old n }
     ensures failures { F.failures folder.old ≤ F.failures folder.new }
-    ensures failed { IsTrue F.honest → IsTrue F.is_readable → IsErrOf result LogError.Failed
+    ensures failed { IsTrue F.honest → IsTrue F.is_readable → IsErrAnd result IsFailure
         → HasRisen (F.failures folder.old) (F.failures folder.new) ⊎ HasSegments (F.seen folder.old) }
     ensures kind { IfErr result IsOfFiles }
 {

@@ -20,6 +20,7 @@ use log_tail::batches::find_records;
 use log_tail::heads::is_damaged;
 use log_tail::tail::first_number;
 use std::alloc::Global;
+use std::io::ErrorKind;
 use store_folder::{Folder, ReadableFolder, replace};
 
 // Whether a name is among these.
@@ -47,7 +48,7 @@ fn free_name(alloc: Global, names: &[String]) -> Result<String, LogError>
             return Ok(name);
         }
     }
-    Err(LogError::Failed)
+    Err(LogError::Failed(ErrorKind::AlreadyExists.into()))
 }
 
 // Keeps bytes that are cut off, in a file of this name.

@@ -5,7 +5,7 @@ ghost use Rattle.std.specs.List.{Any};
 ghost use Rattle.docstore.specs.Laws.{taken};
 ghost use Rattle.log_tail.specs.Place.{contents, EndsBy};
 ghost use Rattle.store_published.specs.Filling.{AddsDocuments};
-ghost use Rattle.segmented_log.specs.Causes.{IsOfSeals, IsFillingOf, IsOfFolder};
+ghost use Rattle.segmented_log.specs.Causes.{IsOfSeals, IsFillingOf, IsOfFolder, IsFailure};
 
 use crate::error::LogError;
 use docstore::{StoreError, StoreWriter, TerminatingWrite, laws};
@@ -18,7 +18,7 @@ pub const BLOCK_SIZE: usize = 16384;
 // Why a log could not be sealed whose records a store does not take.
 fn store_error(error: StoreError) -> LogError
     ensures full { result ≡ LogError.Full → (error ≡ StoreError.TooManyDocs) ⊎ (error ≡ StoreError.BlockTooLarge) }
-    ensures failed { result ≡ LogError.Failed → ⊥ }
+    ensures failed { IsFailure result → ⊥ }
     ensures kind { IsOfSeals result }
 {
     match error {
@@ -79,7 +79,7 @@ impl<'a> Filling for TailRecords<'a> {
 pub(crate) fn fill_error(error: FillError<StoreError>) -> LogError
     ensures full { result ≡ LogError.Full → IsFillingOf (λ e.
         (e ≡ StoreError.TooManyDocs) ⊎ (e ≡ StoreError.BlockTooLarge)) error }
-    ensures failed { result ≡ LogError.Failed → IsOfFolder error }
+    ensures failed { IsFailure result → IsOfFolder error }
     ensures kind { IsOfSeals result }
 {
     match error {

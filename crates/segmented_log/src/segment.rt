@@ -2,6 +2,7 @@
 
 ghost use Rattle.std.specs.Prelude.{◌≡◌, ◌≢◌, ◌⊎◌, ◌≤◌, ◌++◌, ℕ, List, length, All, IsTrue, IsSome, IfOk, IfErr, OnOk};
 ghost use Rattle.std.specs.Prelude.{IsErrOf, map};
+ghost use Rattle.std.specs.Result.{IsErrAnd};
 ghost use Rattle.store_base.specs.Counts.{HasRisen};
 ghost use Rattle.store_folder.specs.Moments.{ComesFrom, LeavesOnly};
 ghost use Rattle.store_folder.specs.Folder.{ElsewhereOfBoth, EntriesStayElsewhereOfBoth, FilesElsewhereOfBoth};
@@ -15,7 +16,7 @@ ghost use Rattle.segmented_log.specs.Settled.{part_at, AddsSegment};
 ghost use Rattle.segmented_log.specs.Sealing.{HasPacked};
 ghost use Rattle.segmented_log.specs.Joining.{HasBlocks};
 ghost use Rattle.segmented_log.specs.Opening.{IsNoSegment};
-ghost use Rattle.segmented_log.specs.Causes.{IsOfFiles, IsOfSeals, HasNoRoom, IsFault};
+ghost use Rattle.segmented_log.specs.Causes.{IsOfFiles, IsOfSeals, HasNoRoom, IsFault, IsFailure};
 
 use crate::error::LogError;
 use crate::names::segment_file;
@@ -23,6 +24,8 @@ use crate::sealing::{BLOCK_SIZE, TailRecords, fill_error};
 use docstore::{DocId, FileHandle, FileSlice, StoreError, StoreReader, USUAL_PERIOD, laws};
 use log_tail::Place;
 use std::alloc::Global;
+use std::io;
+use std::io::ErrorKind;
 use store_folder::{Folder, ReadableFolder};
 use store_published::publish_store;
 
@@ -55,14 +58,14 @@ pub(crate) fn first_number<H: FileHandle>(segments: &[Segment<H>], tail_first: u
     }
 }
 
-// Why a segment could not be opened.
-fn open_error(error: StoreError) -> LogError
+// Why a segment could not be opened, of whose file the system said this.
+fn open_error(error: StoreError, reason: io::Error) -> LogError
     ensures no_log { result ≡ LogError.NoLog → (error ≢ StoreError.Memory) × (error ≢ StoreError.Read) }
     ensures kind { IsOfFiles result }
 {
     match error {
         StoreError::Memory => LogError::Memory,
-        StoreError::Read => LogError::Failed,
+        StoreError::Read => LogError::Failed(reason),
         _ => LogError::NoLog,
     }
 }
@@ -90,7 +93,7 @@ pub(crate) fn open_segment<F: ReadableFolder>(
             reader,
             next: 0,
         }),
-        Err(refusal) => Err(open_error(refusal.error)),
+        Err(refusal) => Err(open_error(refusal.error, F::read_error(refusal.file.handle()))),
     }
 }
 
@@ -122,7 +125,7 @@ pub(crate) fn publish_segment<F: Folder>(
     ensures any_moment { IsTrue F.honest → LeavesOnly F.moment F.left_since folder.old folder.new
         (AddsSegment (F.may_leave folder.old) (part_at first tail.now places.now)) }
     ensures failures { F.failures folder.old ≤ F.failures folder.new }
-    ensures failed { IsErrOf result LogError.Failed → HasRisen (F.failures folder.old) (F.failures folder.new) }
+    ensures failed { IsErrAnd result IsFailure → HasRisen (F.failures folder.old) (F.failures folder.new) }
     ensures full { IsErrOf result LogError.Full → HasNoRoom (contents tail.now places.now) }
     ensures kind { IfErr result IsOfSeals }
 {
@@ -147,8 +150,8 @@ pub(crate) fn reopen_error(error: LogError) -> LogError
     ensures kind { IsFault result }
 {
     match error {
-        LogError::Memory => LogError::Memory,
-        _ => LogError::Failed,
+        LogError::Memory | LogError::Failed(_) => error,
+        _ => LogError::Failed(ErrorKind::InvalidData.into()),
     }
 }
 
@@ -181,7 +184,7 @@ pub(crate) fn add_segment<F: ReadableFolder>(
     ensures failures { F.failures folder.old ≤ F.failures folder.new }
 
     // Where no call of the folder failed, the segment's file was published, and was not opened or read.
-    ensures failed { IsTrue F.honest → IsErrOf result LogError.Failed → HasRisen (F.failures folder.old)
+    ensures failed { IsTrue F.honest → IsErrAnd result IsFailure → HasRisen (F.failures folder.old)
         (F.failures folder.new) ⊎ IsSome (F.seen folder.new (segment_name first)) }
     ensures full { IsErrOf result LogError.Full → HasNoRoom (contents tail.now places.now) }
     ensures kind { IfErr result IsOfSeals }

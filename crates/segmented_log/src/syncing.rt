@@ -2,6 +2,7 @@
 
 ghost use Rattle.std.specs.Prelude.{◌≡◌, ◌⊎◌, ◌↔◌, false, ◌≤◌, ◌<◌, ◌+◌, ◌++◌, [], map};
 ghost use Rattle.std.specs.Prelude.{IfErr, OnOk, OnErr, IsErrOf, IsTrue};
+ghost use Rattle.std.specs.Result.{IsErrAnd};
 ghost use Rattle.store_base.specs.Counts.{HasRisen};
 ghost use Rattle.store_folder.specs.Moments.{LeavesOnly};
 ghost use Rattle.store_format.specs.Block.{doc};
@@ -10,7 +11,7 @@ ghost use Rattle.store_folder.specs.Folder.{ElsewhereOfBoth};
 ghost use Rattle.store_folder.specs.Publishing.{part};
 ghost use Rattle.segmented_log.specs.Names.{tail_name};
 ghost use Rattle.segmented_log.specs.Sealing.{AddsPacked};
-ghost use Rattle.segmented_log.specs.Causes.{IsOfSeals, HasNewSegment, HasNoRoomForLast};
+ghost use Rattle.segmented_log.specs.Causes.{IsOfSeals, HasNewSegment, HasNoRoomForLast, IsFailure};
 ghost use Rattle.segmented_log.specs.Causes.{IsFault, IsOfSyncs, KeepsOthers};
 
 use crate::error::LogError;
@@ -41,7 +42,7 @@ impl<F: ReadableFolder> SegmentedLog<F> {
         ensures any_moment { IsTrue F.honest → LeavesOnly F.moment F.left_since self.old.folder self.new.folder
             (KeepsOrAdds self.old.commit self.old.first self.old.slots self.old.pending) }
         ensures failures { F.failures self.old.folder ≤ F.failures self.new.folder }
-        ensures failed { IsErrOf result LogError.Failed
+        ensures failed { IsErrAnd result IsFailure
             → HasRisen (F.failures self.old.folder) (F.failures self.new.folder) }
         ensures kind { IfErr result IsFault }
     {
@@ -72,7 +73,7 @@ impl<F: ReadableFolder> SegmentedLog<F> {
         ensures files { IsTrue F.honest → KeepsOthers (F.seen self.old.folder) (F.seen self.new.folder) }
         ensures packed { IsTrue F.honest → OnOk result (AddsPacked (F.seen self.old.folder) (F.seen self.new.folder)) }
         ensures failures { F.failures self.old.folder ≤ F.failures self.new.folder }
-        ensures failed { IsTrue F.honest → IsErrOf result LogError.Failed
+        ensures failed { IsTrue F.honest → IsErrAnd result IsFailure
             → HasRisen (F.failures self.old.folder) (F.failures self.new.folder)
             ⊎ HasNewSegment (F.seen self.old.folder) (F.seen self.new.folder) }
         ensures full { IsTrue F.honest → IsErrOf result LogError.Full → HasNoRoomForLast self.old.slots }
@@ -114,7 +115,7 @@ impl<F: ReadableFolder> SegmentedLog<F> {
         ensures elsewhere { IsTrue F.honest
             → ElsewhereOfBoth (tail_name ++ part) tail_name (F.seen self.old.folder) (F.seen self.new.folder) }
         ensures failures { F.failures self.old.folder ≤ F.failures self.new.folder }
-        ensures failed { IsErrOf result LogError.Failed
+        ensures failed { IsErrAnd result IsFailure
             → HasRisen (F.failures self.old.folder) (F.failures self.new.folder) }
         ensures kind { IfErr result IsFault }
     {
@@ -162,7 +163,7 @@ impl<F: ReadableFolder> SegmentedLog<F> {
         ensures failures { F.failures self.old.folder ≤ F.failures self.new.folder }
 
         // Where no call of the folder failed, a segment was published whose file was not opened or read.
-        ensures failed { IsTrue F.honest → IsErrOf result LogError.Failed
+        ensures failed { IsTrue F.honest → IsErrAnd result IsFailure
             → HasRisen (F.failures self.old.folder) (F.failures self.new.folder)
             ⊎ HasNewSegment (F.seen self.old.folder) (F.seen self.new.folder) }
         ensures full { IsTrue F.honest → IsErrOf result LogError.Full → HasNoRoomForLast self.old.slots }
@@ -191,7 +192,7 @@ impl<F: ReadableFolder> SegmentedLog<F> {
         ensures files { IsTrue F.honest → KeepsOthers (F.seen self.old.folder) (F.seen self.new.folder) }
         ensures packed { IsTrue F.honest → OnOk result (AddsPacked (F.seen self.old.folder) (F.seen self.new.folder)) }
         ensures failures { F.failures self.old.folder ≤ F.failures self.new.folder }
-        ensures failed { IsTrue F.honest → IsErrOf result LogError.Failed
+        ensures failed { IsTrue F.honest → IsErrAnd result IsFailure
             → HasRisen (F.failures self.old.folder) (F.failures self.new.folder)
             ⊎ HasNewSegment (F.seen self.old.folder) (F.seen self.new.folder) }
         ensures full { IsTrue F.honest → IsErrOf result LogError.Full → HasNoRoomForLast self.old.slots }
@@ -219,7 +220,7 @@ impl<F: ReadableFolder> SegmentedLog<F> {
         ensures files { IsTrue F.honest → KeepsOthers (F.seen self.old.folder) (F.seen self.new.folder) }
         ensures packed { IsTrue F.honest → OnOk result (AddsPacked (F.seen self.old.folder) (F.seen self.new.folder)) }
         ensures failures { F.failures self.old.folder ≤ F.failures self.new.folder }
-        ensures failed { IsTrue F.honest → IsErrOf result LogError.Failed
+        ensures failed { IsTrue F.honest → IsErrAnd result IsFailure
             → HasRisen (F.failures self.old.folder) (F.failures self.new.folder)
             ⊎ HasNewSegment (F.seen self.old.folder) (F.seen self.new.folder) }
         ensures full { IsTrue F.honest → IsErrOf result LogError.Full → HasNoRoomForLast self.old.slots }
@@ -263,7 +264,7 @@ impl<F: ReadableFolder> SegmentedLog<F> {
         ensures failures { F.failures self.old.folder ≤ F.failures self.new.folder }
 
         // As for a seal.
-        ensures failed { IsTrue F.honest → IsErrOf result LogError.Failed
+        ensures failed { IsTrue F.honest → IsErrAnd result IsFailure
             → HasRisen (F.failures self.old.folder) (F.failures self.new.folder)
             ⊎ HasNewSegment (F.seen self.old.folder) (F.seen self.new.folder) }
         ensures full { IsTrue F.honest → IsErrOf result LogError.Full

@@ -2,6 +2,7 @@
 
 ghost use Rattle.std.specs.Prelude.{◌≡◌, ◌≢◌, ◌⊎◌, ◌≤◌, ◌++◌, false, ℕ, List, [], Some, None, length, take, drop};
 ghost use Rattle.std.specs.Prelude.{IsTrue, IfOk, IfErr, OnOk, IsErrOf};
+ghost use Rattle.std.specs.Result.{IsErrAnd};
 ghost use Rattle.store_base.specs.Counts.{HasRisen};
 ghost use Rattle.store_folder.specs.Moments.{ComesFrom, LeavesOnly};
 ghost use Rattle.store_folder.specs.Folder.{ElsewhereOfBoth};
@@ -11,7 +12,7 @@ ghost use Rattle.log_tail.specs.Heads.{is_damaged, rest_of};
 ghost use Rattle.segmented_log.specs.Names.{tail_name};
 ghost use Rattle.segmented_log.specs.Opening.{IsSyncedButTail, IsOldOrSeen, IsTailOf, HasDamage};
 ghost use Rattle.segmented_log.specs.Settled.{IsReadTail, TailIsKept};
-ghost use Rattle.segmented_log.specs.Causes.{IsOfTails, IsFault};
+ghost use Rattle.segmented_log.specs.Causes.{IsOfTails, IsFault, IsFailure};
 
 use crate::error::LogError;
 use crate::tail_file::replace_tail;
@@ -124,7 +125,7 @@ pub(crate) fn repair_tail<F: Folder>(
     ensures sound { cut ≢ Cut.Damage → OnOk result (is_damaged bytes.items ≡ false) }
     ensures whole { cut ≡ Cut.Nothing → OnOk result (rest_of bytes.items ≡ []) }
     ensures failures { F.failures folder.old ≤ F.failures folder.new }
-    ensures failed { IsErrOf result LogError.Failed → HasRisen (F.failures folder.old) (F.failures folder.new) }
+    ensures failed { IsErrAnd result IsFailure → HasRisen (F.failures folder.old) (F.failures folder.new) }
     ensures kind { IfErr result IsOfTails }
 {
     let len = bytes.len();
@@ -156,7 +157,7 @@ pub(crate) fn begin_tail<F: Folder>(alloc: Global, folder: &mut F) -> Result<Tai
         (F.seen folder.old) (F.seen folder.new) }
     ensures empty { IfOk result (λ t. IsTailOf None t.bytes.items) }
     ensures failures { F.failures folder.old ≤ F.failures folder.new }
-    ensures failed { IsErrOf result LogError.Failed → HasRisen (F.failures folder.old) (F.failures folder.new) }
+    ensures failed { IsErrAnd result IsFailure → HasRisen (F.failures folder.old) (F.failures folder.new) }
     ensures kind { IfErr result IsFault }
 {
     let bytes = new_tail(alloc, 0)?;

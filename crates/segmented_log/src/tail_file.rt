@@ -2,13 +2,14 @@
 
 ghost use Rattle.std.specs.Prelude.{◌≡◌, ◌≤◌, ◌++◌, ℕ, List, length, take, drop, IsTrue, IfErr, OnOk, OnErr, IsErrOf};
 ghost use Rattle.std.specs.Prelude.{All, Some, map};
+ghost use Rattle.std.specs.Result.{IsErrAnd};
 ghost use Rattle.store_base.specs.Counts.{HasRisen};
 ghost use Rattle.store_folder.specs.Moments.{ComesFrom, LeavesOnly};
 ghost use Rattle.store_folder.specs.Folder.{Elsewhere, ElsewhereOfBoth};
 ghost use Rattle.store_folder.specs.Publishing.{part, IsOldOrWhole};
 ghost use Rattle.segmented_log.specs.Names.{tail_name};
 ghost use Rattle.segmented_log.specs.Settled.{TailIsKept, GrowsTail, PutsBatch};
-ghost use Rattle.segmented_log.specs.Causes.{IsFault};
+ghost use Rattle.segmented_log.specs.Causes.{IsFault, IsFailure};
 ghost use Rattle.store_folder.specs.Calls.{doing_of, IsApart};
 ghost use Rattle.segmented_log.specs.CallLists.{appending};
 
@@ -74,7 +75,7 @@ pub(crate) fn write_batch<F: Folder>(
     ensures any_moment { IsTrue F.honest → LeavesOnly F.moment F.left_since folder.old folder.new
         (PutsBatch commit (F.may_leave folder.old) (take end tail.now) (drop end tail.now)) }
     ensures failures { F.failures folder.old ≤ F.failures folder.new }
-    ensures failed { IsErrOf result LogError.Failed → HasRisen (F.failures folder.old) (F.failures folder.new) }
+    ensures failed { IsErrAnd result IsFailure → HasRisen (F.failures folder.old) (F.failures folder.new) }
     ensures kind { IfErr result IsFault }
 {
     match commit {
@@ -97,7 +98,7 @@ pub(crate) fn replace_tail<F: Folder>(folder: &mut F, bytes: &[u8]) -> Result<()
     ensures any_moment { IsTrue F.honest → LeavesOnly F.moment F.left_since folder.old folder.new
         (IsOldOrWhole (F.may_leave folder.old) (tail_name ++ part) tail_name (Some bytes.now)) }
     ensures failures { F.failures folder.old ≤ F.failures folder.new }
-    ensures failed { IsErrOf result LogError.Failed → HasRisen (F.failures folder.old) (F.failures folder.new) }
+    ensures failed { IsErrAnd result IsFailure → HasRisen (F.failures folder.old) (F.failures folder.new) }
     ensures kind { IfErr result IsFault }
 {
     replace(folder, TAIL_PART, TAIL, bytes)?;

@@ -115,6 +115,16 @@ impl<H: FileHandle> FileSlice<H> {
         self.end - self.start
     }
 
+    /// The file that it is a part of.
+    pub fn handle(&self) -> &H
+        ensures honest { H.honest result.now ≡ self.now.honest }
+        ensures failures { H.failures result.now ≡ self.now.failures }
+        ensures reads { H.reads result.now ≡ self.now.reads }
+        ensures asked { H.asked result.now ≡ self.now.asked }
+    {
+        &self.handle
+    }
+
     /// Reads the whole part, by one read of the file.
     pub fn read_bytes(&mut self, alloc: Global) -> Result<OwnedBytes, ReadFault>
         ensures length { IfOk result (λ bytes. length bytes ≡ length self.old.content) }

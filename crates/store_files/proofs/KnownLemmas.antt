@@ -9,7 +9,7 @@ use Rattle.std.specs.Prelude.{IfSome, IsSomeAnd, String, string_bytes}
 use Rattle.std.specs.declared.alloc.Global.{Global}
 use Rattle.store_files.specs.Paths.{IsIn}
 use Rattle.store_files.specs.Opened.{IsReady, IsTracked}
-use Rattle.store_files.specs.declared.open_file.OpenFile.{OpenFile}
+use Rattle.store_files.specs.declared.open_file.KeptFile.{KeptFile}
 use Rattle.store_files.specs.Knowledge.{rank, untouched, with_standing, passed_to, moved, unless_failed}
 use Rattle.store_files.proofs.KnowledgeLemmas.{equal, unequal, decided}
 use Rattle.store_files.specs.declared.knowledge.Standing.{Standing}
@@ -264,7 +264,7 @@ tracked_as old new folder name other opened_as opened number same names en eo es
 }
 
 -- the open file is the one of its name still, where names lead to the same files
-pub still_tracked : {F : Type 0} (old new : Disk) (folder : List ℕ) (opened_as : F → List ℕ) (number : F → ℕ) (open_file : Option (OpenFile F)) → ((n : List ℕ) → new.file_of n ≡ old.file_of n)
+pub still_tracked : {F : Type 0} (old new : Disk) (folder : List ℕ) (opened_as : F → List ℕ) (number : F → ℕ) (open_file : Option (KeptFile F)) → ((n : List ℕ) → new.file_of n ≡ old.file_of n)
     → IfSome open_file (λ o. IsTracked old folder (string_bytes o.name) (opened_as o.file) (number o.file))
     → IfSome open_file (λ o. IsTracked new folder (string_bytes o.name) (opened_as o.file) (number o.file))
 still_tracked old new folder opened_as number None names was = tt
@@ -307,7 +307,7 @@ fail_both from to known between now first second n = elim (decided n from) [
 ]
 
 -- the open file after a renaming
-pub renamed_tracked : {F : Type 0} (old new : Disk) (folder from to : List ℕ) (opened_as : F → List ℕ) (number : F → ℕ) (name : String Global) (open_file result : Option (OpenFile F))
+pub renamed_tracked : {F : Type 0} (old new : Disk) (folder from to : List ℕ) (opened_as : F → List ℕ) (number : F → ℕ) (name : String Global) (open_file result : Option (KeptFile F))
     → string_bytes name ≡ to → Renames from to true old new → IfSome open_file (λ o. IsTracked old folder (string_bytes o.name) (opened_as o.file) (number o.file))
     → IfSome result (λ o. IsSomeAnd open_file (λ was. (o.file ≡ was.file)
     × (((string_bytes was.name ≡ from) × (o.name ≡ name)) ⊎ ((string_bytes was.name ≢ from) × (string_bytes was.name ≢ to) × (o.name ≡ was.name)))))

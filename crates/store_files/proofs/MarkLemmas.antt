@@ -1,85 +1,21 @@
 -- What a mark claims, and what is known.
-use Rattle.std.proofs.Common.{◌≡◌, ◌≢◌, inl, inr, ℕ, ◌≤◌, Bool, true, false, List, [], ◌∷◌, ◌++◌, ◌||◌, refl, sym, ◌∙◌, ap, subst, nat_eq, arith}
+use Rattle.std.proofs.Common.{◌≡◌, ◌≢◌, ℕ, ◌≤◌, Bool, true, false, List, [], ◌∷◌, ◌++◌, ◌||◌, refl, sym, ◌∙◌, ap, subst, nat_eq, arith}
 use Rattle.std.specs.Prelude.{if◌then◌else◌, IsTrue, Vec}
 use Rattle.std.specs.declared.alloc.Global.{Global}
 use lib.Pointwise.{pointwise}
-use Rattle.store_files.specs.Knowledge.{is_part, rank, untouched, unless_failed, after, known_by, entries_after, entries_by}
-use Rattle.store_files.specs.Mark.{others_of, claims_entries, named, claimed, ClaimsNoMore, Covers, CoversAll}
+use Rattle.store_files.specs.Knowledge.{is_part, rank}
+use Rattle.store_files.specs.Mark.{others_of, claims_entries, named, claimed, ClaimsNoMore}
 use Rattle.store_files.specs.declared.knowledge.Standing.{Standing}
-use Rattle.store_files.specs.declared.knowledge.Standing.TheVariants.{Failed, Unsynced, Synced}
-use Rattle.store_files.specs.declared.knowledge.Doing.{Doing}
-use Rattle.store_files.specs.declared.knowledge.Doing.TheVariants.{Created, Appended, Moved, Removed, FileSynced, SyncFailed, FolderSynced}
+use Rattle.store_files.specs.declared.knowledge.Standing.TheVariants.{Failed}
 use Rattle.store_files.specs.declared.mark.MarkKind.{MarkKind}
 use Rattle.store_files.specs.declared.mark.MarkKind.TheVariants.{Ended, Open, Unsure}
 use Rattle.store_files.specs.declared.mark.Mark.{Mark}
-use Rattle.store_files.proofs.KnowledgeLemmas.{decided, equal, unequal}
+use Rattle.store_files.proofs.KnowledgeLemmas.{equal}
 
 only_ended : (kind : MarkKind) → kind ≢ Ended → IsTrue (claims_entries kind) → (b : Bool) → IsTrue b
 only_ended Ended ne is b = absurd (ne refl)
 only_ended Open ne is b = let none : ⊥ = cc in absurd none
 only_ended Unsure ne is b = let none : ⊥ = cc in absurd none
-
--- what is claimed is at most what stands at the name, and what stands at the others
-at_most : (name n : List ℕ) (c x y : Standing) → (name ≡ n → rank c ≤ rank x) → rank c ≤ rank y → rank c ≤ rank (if pointwise nat_eq name n then x else y)
-at_most name n c x y at other = elim (decided name n) [
-  | inl e ↦ subst (λ (b : Bool). rank c ≤ rank (if b then x else y)) (sym (equal name n e)) (at e)
-  | inr ne ↦ subst (λ (b : Bool). rank c ≤ rank (if b then x else y)) (sym (unequal name n ne)) other
-]
-
-nothing_at : (mark : Mark) (name n : List ℕ) (x : Standing) → claimed mark name ≡ Failed → name ≡ n → rank (claimed mark n) ≤ rank x
-nothing_at mark name n x is e = subst (λ (s : Standing). rank s ≤ rank x) (sym (subst (λ (k : List ℕ). claimed mark k ≡ Failed) e is)) (omega arith)
-
-most : (s : Standing) → rank s ≤ 2
-most Failed = omega arith
-most Unsynced = omega arith
-most Synced = omega arith
-
-unless_at : (c old : Standing) → rank c ≤ rank old → rank c ≤ rank (unless_failed old Synced)
-unless_at c Failed le = le
-unless_at c Unsynced le = most c
-unless_at c Synced le = most c
-
-claimed_untouched : (mark : Mark) (others : Standing) (n : List ℕ) → rank (others_of mark.kind) ≤ rank others → rank (claimed mark n) ≤ rank (untouched others n)
-claimed_untouched mark others n le = told (is_part n) (named mark.names.items n)
-  where
-    told : (p q : Bool) → rank (if p then Failed else (if q then Failed else others_of mark.kind)) ≤ rank (if p then Failed else others)
-    told true q = omega arith
-    told false true = omega arith
-    told false false = le
-
-module _ (mark : Mark) (others : Standing) (old : List ℕ → Standing) (entries : Bool) (was : ClaimsNoMore mark others old entries) where
-  files_after : (doing : Doing) → Covers mark old doing → (n : List ℕ) → rank (claimed mark n) ≤ rank (after doing others old n)
-  files_after (Created name) covered n = at_most name.now n (claimed mark n) Unsynced (old n) (nothing_at mark name.now n Unsynced covered.1) (was.files n)
-  files_after (Appended name) covered n =
-      at_most name.now n (claimed mark n) (unless_failed (old name.now) Unsynced) (old n) (nothing_at mark name.now n (unless_failed (old name.now) Unsynced) covered) (was.files n)
-  files_after (SyncFailed name) covered n = at_most name.now n (claimed mark n) Failed (old n) (nothing_at mark name.now n Failed covered) (was.files n)
-  files_after (FileSynced name) covered n =
-      at_most name.now n (claimed mark n) (unless_failed (old name.now) Synced) (old n)
-      (λ e. subst (λ (k : List ℕ). rank (claimed mark k) ≤ rank (unless_failed (old name.now) Synced)) e (unless_at (claimed mark name.now) (old name.now) (was.files name.now))) (was.files n)
-  files_after (Moved from to) covered n =
-      at_most to.now n (claimed mark n) (old from.now) (if pointwise nat_eq from.now n then untouched others n else old n)
-      (λ e. subst (λ (k : List ℕ). rank (claimed mark k) ≤ rank (old from.now)) e covered.1)
-      (at_most from.now n (claimed mark n) (untouched others n) (old n) (λ _. claimed_untouched mark others n was.rest) (was.files n))
-  files_after (Removed name) covered n = at_most name.now n (claimed mark n) (untouched others n) (old n) (λ _. claimed_untouched mark others n was.rest) (was.files n)
-  files_after FolderSynced covered n = was.files n
-
-  entries_still : (doing : Doing) → Covers mark old doing → IsTrue (claims_entries mark.kind) → IsTrue (entries_after doing entries)
-  entries_still (Created name) covered is = only_ended mark.kind covered.0 is false
-  entries_still (Appended name) covered is = was.all_entries is
-  entries_still (SyncFailed name) covered is = was.all_entries is
-  entries_still (FileSynced name) covered is = was.all_entries is
-  entries_still (Moved from to) covered is = only_ended mark.kind covered.0 is false
-  entries_still (Removed name) covered is = only_ended mark.kind covered is false
-  entries_still FolderSynced covered is = refl
-
-  pub still : (doing : Doing) → Covers mark old doing → ClaimsNoMore mark others (after doing others old) (entries_after doing entries)
-  still doing covered = record { files = files_after doing covered; rest = was.rest; all_entries = entries_still doing covered }
-
-pub still_no_more : (mark : Mark) (others : Standing) (start : List ℕ → Standing) (entries : Bool) (doings : List Doing) → ClaimsNoMore mark others start entries → CoversAll mark others start doings
-    → ClaimsNoMore mark others (known_by others start doings) (entries_by entries doings)
-still_no_more mark others start entries [] was covered = was
-still_no_more mark others start entries (doing ∷ earlier) was covered =
-    still mark others (known_by others start earlier) (entries_by entries earlier) (still_no_more mark others start entries earlier was covered.1) doing covered.0
 
 -- one name more
 pub named-more : (names : List (Vec ℕ Global)) (name : Vec ℕ Global) (n : List ℕ) → named (names ++ name ∷ []) n ≡ (if pointwise nat_eq name.items n then true else named names n)

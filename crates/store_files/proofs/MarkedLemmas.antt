@@ -5,7 +5,7 @@ use Rattle.std.specs.declared.alloc.Global.{Global}
 use Rattle.store_folder.specs.Folder.{AreNames}
 use Rattle.store_files.specs.Disk.{Change, Moved, Removed, Disk, replay, seen, held, trusts, Adds}
 use Rattle.store_files.specs.Steps.{Creates, Appends, SyncsFile, Renames, Removes}
-use Rattle.store_files.specs.Known.{Knows, Claims, AreSo, Replaces, KeepsMark}
+use Rattle.store_files.specs.Known.{Knows, Claims, AreSo, KeepsMark}
 use Rattle.store_files.specs.Knowledge.{rank, with_standing, passed_to, unless_failed}
 use Rattle.store_files.specs.Mark.{claimed, claims_entries, claims_of, Covers, Permits, ClaimsNoMore}
 use Rattle.store_files.specs.Opened.{IsMarked}
@@ -179,12 +179,6 @@ still locks place claims new d e path boot inode mark before keeps so = record {
     of : (mark : Option Mark) → IfSome mark (λ m. claims ≡ claims_of m) → IfSome mark (λ m. new ≡ claims_of m)
     of None is = tt
     of (Some m) is = keeps.same ∙ is
-
--- a mark was written, or that failed
-pub rewritten : (ok : Bool) (claims old new : Claims) (d : Disk) → Replaces ok claims old new → AreSo old d → AreSo claims d → AreSo new d
-rewritten true claims old new d is was so = subst (λ (c : Claims). AreSo c d) (sym is) so
-rewritten false claims old new d (inl same) was so = subst (λ (c : Claims). AreSo c d) (sym same) was
-rewritten false claims old new d (inr is) was so = subst (λ (c : Claims). AreSo c d) (sym is) so
 
 -- a file is the lock of one folder
 pub one_folder : (path d : List ℕ) (locks : Option (Option (List ℕ))) → locks ≡ Some (Some path) → locks ≡ Some (Some d) → path ≡ d

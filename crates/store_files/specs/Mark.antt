@@ -5,7 +5,7 @@ use Rattle.std.specs.declared.alloc.Global.{Global}
 use lib.Pointwise.{pointwise}
 use Rattle.store_files.specs.Disk.{Disk, seen, held, trusts}
 use Rattle.store_files.specs.Known.{Claims}
-use Rattle.store_files.specs.Knowledge.{is_part, rank, known_by}
+use Rattle.store_files.specs.Knowledge.{is_part, rank}
 use Rattle.store_files.specs.declared.knowledge.Standing.{Standing}
 use Rattle.store_files.specs.declared.knowledge.Standing.TheVariants.{Failed, Unsynced, Synced}
 use Rattle.store_files.specs.declared.knowledge.Doing.{Doing}
@@ -61,11 +61,6 @@ Permits c d (Moved from to) = (c.entries ≡ false) × (c.files to.now ≢ Faile
 Permits c d (Removed name) = c.entries ≡ false
 Permits c d (FileSynced name) = Unit {0}
 Permits c d FolderSynced = Unit {0}
-
--- Each of these doings may be done under the mark. They are the last of them first.
-abbrev pub CoversAll : Mark → Standing → (List ℕ → Standing) → List Doing → Type 0
-CoversAll mark others start [] = Unit {0}
-CoversAll mark others start (doing ∷ earlier) = Covers mark (known_by others start earlier) doing × CoversAll mark others start earlier
 
 -- Bytes in which no byte is 0.
 abbrev pub IsPlain : List ℕ → Type 0

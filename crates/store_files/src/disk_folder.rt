@@ -8,8 +8,8 @@ ghost use Rattle.store_files.specs.Paths.{IsPath};
 
 use crate::create_error::CreateError;
 use crate::lock_mark::{LockMark, is_left_synced};
-use crate::locking::{folder_of, locked, open_folder};
-use crate::open_file::{OpenFile, sync_cut};
+use crate::locking::{folder_of, is_blocked, locked, open_folder};
+use crate::open_file::{KeptFile, sync_cut};
 use crate::output_folder::Output;
 use crate::paths::{lock_path_of, path_of};
 use crate::system_files::SystemFiles;
@@ -35,7 +35,7 @@ pub struct DiskFolder<S: SystemFiles> {
     pub(crate) alloc: Global,
     pub(crate) path: String,
     pub(crate) folder: S::File,
-    pub(crate) open_file: Option<OpenFile<S::File>>,
+    pub(crate) open_file: Option<KeptFile<S::File>>,
     pub(crate) mark: LockMark<S>,
     /// None, unless it was opened for an output.
     pub(crate) output: Option<Output>,
@@ -214,7 +214,7 @@ impl<S: SystemFiles> DiskFolder<S> {
         ensures path { IfOk result (λ path. IsPath self.now.path name.now (string_bytes path)) }
     {
         let path = self.path_at(name)?;
-        if self.system.is_blocked(path.as_str()) {
+        if is_blocked(&self.system, path.as_str()) {
             return Err(ErrorKind::InvalidInput.into());
         }
         Ok(path)

@@ -53,29 +53,18 @@ impl Opened {
     }
 }
 
-/// The files that are open, the one that was read last at the end, and why the last call of the system that failed did
-/// so. A log reports only that one failed.
+/// The files that are open, the one that was read last at the end.
 #[derive(Drop)]
 pub(crate) struct FilePool {
     opened: Cell<Option<Vec<Opened>>>,
-    pub(crate) cause: Cell<Option<io::Error>>,
 }
 
 impl FilePool {
-    /// None is open, and none has failed.
+    /// None is open.
     pub(crate) fn new() -> FilePool {
         FilePool {
             opened: Cell::new(None),
-            cause: Cell::new(None),
         }
-    }
-
-    /// Keeps why a call failed.
-    pub(crate) fn noted<T: Drop>(&self, outcome: io::Result<T>) -> io::Result<T> {
-        if let Err(error) = &outcome {
-            self.cause.set(Some(*error));
-        }
-        outcome
     }
 
     // Takes the open file out.
@@ -138,15 +127,6 @@ impl PooledFile {
             false => Err(ErrorKind::NotFound.into()),
         }
     }
-
-    // Fills the buffer from an offset on.
-    fn fill(&self, buffer: &mut [u8], offset: u64) -> io::Result<()> {
-        let file = self.opened()?;
-        let filled = file.read_exact_at(buffer, offset);
-        let id = self.id;
-        self.pool.keep(self.rt.alloc(), Opened { id, file })?;
-        filled
-    }
 }
 
 /// It is closed: a file that has no name any more would take room.
@@ -173,7 +153,10 @@ impl ReadAt for PooledFile {
     }
 
     fn fill_at(&self, buffer: &mut [u8], offset: u64) -> io::Result<()> {
-        let filled = self.fill(buffer, offset);
-        self.pool.noted(filled)
+        let file = self.opened()?;
+        let filled = file.read_exact_at(buffer, offset);
+        let id = self.id;
+        self.pool.keep(self.rt.alloc(), Opened { id, file })?;
+        filled
     }
 }

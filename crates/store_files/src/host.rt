@@ -27,16 +27,6 @@ impl HostFiles {
             pool: Rc::new(rt.alloc(), FilePool::new())?,
         })
     }
-
-    /// Why the last call that failed did so, once.
-    pub fn take_cause(&self) -> Option<io::Error> {
-        self.pool.cause.take()
-    }
-
-    // Keeps why a call failed.
-    fn noted<T: Drop>(&self, outcome: io::Result<T>) -> io::Result<T> {
-        self.pool.noted(outcome)
-    }
 }
 
 impl Clone for HostFiles {
@@ -108,17 +98,6 @@ impl SystemFiles for HostFiles {
         fs::create_dir(&self.rt, path)
     }
 
-    fn is_blocked(&self, path: &str) -> bool {
-        let is_blocked = match found_at(&self.rt, path) {
-            Ok(Some(found)) => !found.is_file(),
-            _ => false,
-        };
-        if is_blocked {
-            self.pool.cause.set(Some(ErrorKind::InvalidInput.into()));
-        }
-        is_blocked
-    }
-
     fn find(&self, path: &str) -> io::Result<Option<FoundFile>> {
         match found_at(&self.rt, path)? {
             Some(found) => Ok(Some(described(&found))),
@@ -140,25 +119,24 @@ impl SystemFiles for HostFiles {
     }
 
     fn open_folder(&self, path: &str) -> io::Result<File> {
-        self.noted(File::open(&self.rt, path))
+        File::open(&self.rt, path)
     }
 
     fn open(&self, path: &str) -> io::Result<File> {
-        self.noted(File::open(&self.rt, path))
+        File::open(&self.rt, path)
     }
 
     fn open_to_append(&self, path: &str) -> io::Result<File> {
-        self.noted(OpenOptions::new().append(true).open(&self.rt, path))
+        OpenOptions::new().append(true).open(&self.rt, path)
     }
 
     fn create(&mut self, path: &str) -> io::Result<()> {
-        let made = OpenOptions::new()
+        OpenOptions::new()
             .write(true)
             .create(true)
             .truncate(true)
             .open(&self.rt, path)
-            .map(drop);
-        self.noted(made)
+            .map(drop)
     }
 
     fn create_new(&mut self, path: &str, mode: u32) -> io::Result<File> {
@@ -170,11 +148,11 @@ impl SystemFiles for HostFiles {
     }
 
     fn len(&self, file: &File) -> io::Result<u64> {
-        Ok(self.noted(file.metadata())?.len())
+        Ok(file.metadata()?.len())
     }
 
     fn write(&mut self, file: &mut File, bytes: &[u8]) -> io::Result<()> {
-        self.noted(file.write_all(bytes))
+        file.write_all(bytes)
     }
 
     fn cut(&mut self, file: &File, len: u64) -> io::Result<()> {
@@ -182,19 +160,19 @@ impl SystemFiles for HostFiles {
     }
 
     fn sync_file(&mut self, file: &File) -> io::Result<()> {
-        self.noted(file.sync_data())
+        file.sync_data()
     }
 
     fn rename(&mut self, from: &str, to: &str) -> io::Result<()> {
-        self.noted(fs::rename(&self.rt, from, to))
+        fs::rename(&self.rt, from, to)
     }
 
     fn remove(&mut self, path: &str) -> io::Result<()> {
-        self.noted(fs::remove_file(&self.rt, path))
+        fs::remove_file(&self.rt, path)
     }
 
     fn sync_folder(&mut self, folder: &File) -> io::Result<()> {
-        self.noted(folder.sync_all())
+        folder.sync_all()
     }
 
     fn open_lock(&self, path: &str) -> io::Result<File> {
@@ -234,14 +212,14 @@ impl SystemFiles for HostFiles {
         mark: &Mark,
     ) -> io::Result<()> {
         let bytes = mark.to_bytes(self.rt.alloc(), boot, inode.as_bytes())?;
-        self.noted(replace_bytes(lock, &bytes))
+        replace_bytes(lock, &bytes)
     }
 
     fn names(&self, alloc: Global, path: &str) -> io::Result<Vec<String>> {
-        self.noted(file_names(&self.rt, alloc, path))
+        file_names(&self.rt, alloc, path)
     }
 
     fn open_to_read(&self, path: &str) -> io::Result<PooledFile> {
-        self.noted(PooledFile::open(&self.rt, &self.pool, path))
+        PooledFile::open(&self.rt, &self.pool, path)
     }
 }

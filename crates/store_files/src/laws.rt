@@ -3,7 +3,7 @@
 ghost use Rattle.std.specs.Prelude.{◌≡◌, ◌≢◌, ◌≤◌, ℕ, List, IfOk, reverse};
 ghost use Rattle.store_files.specs.Knowledge.{said, rank, known_by, entries_by};
 ghost use Rattle.store_files.specs.Mark.{claimed, others_of, claims_entries};
-ghost use Rattle.store_files.specs.Laws.{MarksClaimNoMore, EndMarksAreRight};
+ghost use Rattle.store_files.specs.Laws.{EndMarksAreRight};
 
 use crate::knowledge::{Doing, Knowledge, Standing};
 use crate::mark::Mark;
@@ -29,11 +29,6 @@ pub fn doings_are_known(
     }
     Ok(knowledge)
 }
-
-/// A mark claims of no file more than what is known, at each moment at which its writer may be killed.
-pub fn marks_claim_no_more()
-    ensures { MarksClaimNoMore }
-{}
 
 /// Bytes are one mark at most, of one start of the machine and one folder, and a part of a mark is none.
 pub fn end_marks_are_right()

@@ -10,6 +10,7 @@ pub mod file_pool;
 pub mod host;
 pub mod knowledge;
 pub mod laws;
+pub mod lent;
 pub mod loading;
 pub mod lock_mark;
 mod locking;

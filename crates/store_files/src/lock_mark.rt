@@ -14,6 +14,7 @@ ghost use Rattle.store_files.specs.Opened.{IsMarked};
 
 use crate::knowledge::{Doing, Knowledge, Standing};
 use crate::loading::read_all;
+use crate::locking::is_blocked;
 use crate::mark::{Mark, end_mark, mark_before, read_mark};
 use crate::paths::lock_path_of;
 use crate::system_files::{FoundMark, SystemFiles};
@@ -281,7 +282,7 @@ pub fn is_left_synced<S: SystemFiles>(
         → seen (replay (S.changes system.now folder.now) (S.start folder.now)) name.now ≡ Some bytes) }
 {
     let path = lock_path_of(alloc, folder)?;
-    if system.is_blocked(path.as_str()) {
+    if is_blocked(system, path.as_str()) {
         return Err(ErrorKind::InvalidInput.into());
     }
     let lock = system.open(path.as_str())?;

@@ -37,6 +37,14 @@ pub(crate) fn busy(alloc: Global, path: &str) -> CreateError {
     }
 }
 
+/// Whether something has this path that is no plain file, or a link.
+pub(crate) fn is_blocked<S: SystemFiles>(system: &S, path: &str) -> bool {
+    match system.find(path) {
+        Ok(Some(found)) => found.kind != FileKind::Plain,
+        _ => false,
+    }
+}
+
 /// That the file of this path can't be locked, since it is not a plain file.
 pub(crate) fn blocked(alloc: Global, path: &str) -> CreateError {
     match String::from_str(alloc, path) {
@@ -76,10 +84,7 @@ pub(crate) fn locked<S: SystemFiles>(
     ensures locks { IsTrue S.honest → (d : List ℕ) → path.now ≡ lock_of d
         → IfOk result (λ file. S.locks file ≡ Some d) }
 {
-    if system
-        .find(path)?
-        .is_some_and(|found| found.kind != FileKind::Plain)
-    {
+    if is_blocked(system, path) {
         return Err(blocked(alloc, path));
     }
     let file = system.open_lock(path)?;

@@ -15,7 +15,7 @@ use std::io;
 
 /// A file that is open.
 #[derive(Drop)]
-pub(crate) struct OpenFile<F> {
+pub(crate) struct KeptFile<F> {
     pub(crate) name: String,
     pub(crate) file: F,
     /// Whether a write goes to its end. Otherwise it is open to be synced alone.
@@ -28,7 +28,7 @@ pub(crate) struct OpenFile<F> {
 /// take room, and the next opening of a log would need more, to write the whole tail without it.
 pub(crate) fn append<S: SystemFiles>(
     system: &mut S,
-    open: &mut OpenFile<S::File>,
+    open: &mut KeptFile<S::File>,
     bytes: &[u8],
 ) -> io::Result<()>
     ensures appended { IsTrue S.honest → (d n : List ℕ) → IsTracked (replay (S.changes system.old d) (S.start d)) d n
@@ -58,7 +58,7 @@ pub(crate) fn sync_cut<S: SystemFiles>(
     alloc: Global,
     system: &mut S,
     mark: &mut LockMark<S>,
-    open: &OpenFile<S::File>,
+    open: &KeptFile<S::File>,
 )
     requires { IsTrue S.honest → mark.old.is_kept ≡ true → (d : List ℕ)
         → option_map S.locks mark.old.lock ≡ Some (Some d)

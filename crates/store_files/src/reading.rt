@@ -64,4 +64,8 @@ impl<S: SystemFiles> ReadableFolder for DiskFolder<S> {
         let path = self.path_of(name)?;
         measured(self.system.open_to_read(path.as_str())?)
     }
+
+    fn read_error(file: &DiskFile<S::Reader>) -> io::Error {
+        file.read_error().unwrap_or(ErrorKind::Other.into())
+    }
 }

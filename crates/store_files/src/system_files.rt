@@ -48,8 +48,8 @@ pub struct FoundFile {
 /// and its disk promise of that call: which change it makes to the folder of a path. What is read of a folder after
 /// changes, and what a crash may leave of it, is their definition (`specs/Disk.antt`).
 ///
-/// Not in the model: hard links, other processes that change the folder, modes and owners, the file `lock`, and what is
-/// no plain file.
+/// Not in the model: hard links, other processes that change the folder, modes and owners, what is no plain file, and of
+/// the file `lock` all but its mark.
 pub trait SystemFiles: Drop {
     /// A file or a folder that is open.
     type File: Drop;
@@ -90,9 +90,6 @@ pub trait SystemFiles: Drop {
 
     /// Makes a folder: `mkdir`.
     fn make_folder(&self, path: &str) -> io::Result<()>;
-
-    /// Whether something is there that is no plain file, or a link: `lstat`.
-    fn is_blocked(&self, path: &str) -> bool;
 
     /// What is at a path, where a link is not followed: `lstat`. None where nothing is.
     fn find(&self, path: &str) -> io::Result<Option<FoundFile>>;

@@ -9,30 +9,30 @@ ghost use Rattle.store_files.specs.Mark.{Permits};
 
 use crate::disk_folder::DiskFolder;
 use crate::knowledge::Doing;
-use crate::open_file::{OpenFile, append};
+use crate::open_file::{KeptFile, append};
 use crate::system_files::SystemFiles;
 use std::io;
 use std::io::ErrorKind;
 
 // The file that is open, under its new name, if it was renamed. One that was replaced is not open any more.
 fn renamed<F: Drop>(
-    open_file: Option<OpenFile<F>>,
+    open_file: Option<KeptFile<F>>,
     from: &str,
     to: &str,
     name: String,
-) -> Option<OpenFile<F>>
+) -> Option<KeptFile<F>>
     ensures { IfSome result (λ o. IsSomeAnd open_file (λ was. (o.file ≡ was.file)
         × (((string_bytes was.name ≡ from.now) × (o.name ≡ name)) ⊎ ((string_bytes was.name ≢ from.now)
         × (string_bytes was.name ≢ to.now) × (o.name ≡ was.name))))) }
 {
-    let OpenFile {
+    let KeptFile {
         name: old_name,
         file,
         can_append,
         is_cut,
     } = open_file?;
     if old_name.as_str() == from {
-        return Some(OpenFile {
+        return Some(KeptFile {
             name,
             file,
             can_append,
@@ -42,7 +42,7 @@ fn renamed<F: Drop>(
     if old_name.as_str() == to {
         return None;
     }
-    Some(OpenFile {
+    Some(KeptFile {
         name: old_name,
         file,
         can_append,
@@ -52,7 +52,7 @@ fn renamed<F: Drop>(
 
 impl<S: SystemFiles> DiskFolder<S> {
     // Takes the file of this name, open to be written at its end or to be synced: the one that is open, or another.
-    fn take(&mut self, name: &str, to_append: bool) -> io::Result<OpenFile<S::File>>
+    fn take(&mut self, name: &str, to_append: bool) -> io::Result<KeptFile<S::File>>
         ensures same { self.new ≡ self.old }
         ensures name { IfOk result (λ o. string_bytes o.name ≡ name.now) }
         ensures opened { IsTrue S.honest → IfOk result (λ o. IsTracked
@@ -70,7 +70,7 @@ impl<S: SystemFiles> DiskFolder<S> {
             true => self.system.open_to_append(path.as_str())?,
             false => self.system.open(path.as_str())?,
         };
-        Ok(OpenFile {
+        Ok(KeptFile {
             name,
             file,
             can_append: to_append,
@@ -132,7 +132,7 @@ impl<S: SystemFiles> DiskFolder<S> {
     }
 
     // Syncs the file of this name, which is open.
-    fn sync_open(&mut self, open: OpenFile<S::File>, name: &str) -> io::Result<()>
+    fn sync_open(&mut self, open: KeptFile<S::File>, name: &str) -> io::Result<()>
         requires tracked { IsTrue S.honest → IsTracked
             (replay (S.changes self.old.system self.old.path) (S.start self.old.path)) self.old.path name.now
             (S.opened_as open.file) (S.number open.file) }

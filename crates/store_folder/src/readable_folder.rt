@@ -43,4 +43,9 @@ pub trait ReadableFolder: Folder {
         ensures failures { IfOk result (λ file. Self.File.failures file ≡ 0) }
         ensures reads { IfOk result (λ file. Self.File.reads file ≡ 0) }
         ensures asked { IfOk result (λ file. Self.File.asked file ≡ 0) };
+
+    /// What the system said at the last read of this file that failed.
+    fn read_error(_file: &Self::File) -> io::Error {
+        ErrorKind::Other.into()
+    }
 }

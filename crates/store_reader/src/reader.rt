@@ -303,6 +303,16 @@ impl<H: FileHandle> StoreReader<H> {
         self.decompressor
     }
 
+    /// The file that it reads.
+    pub fn file(&self) -> &H
+        ensures honest { H.honest result.now ≡ self.now.file.honest }
+        ensures failures { H.failures result.now ≡ self.now.file.failures }
+        ensures reads { H.reads result.now ≡ self.now.file.reads }
+        ensures asked { H.asked result.now ≡ self.now.file.asked }
+    {
+        self.file.handle()
+    }
+
     /// How many bytes the data and the index take.
     pub fn space_usage(&self) -> StoreSpaceUsage
         ensures { result ≡ (length self.now.file.content, length (index_part self.now.period self.now.checkpoints)) }

@@ -236,10 +236,6 @@ impl SystemFiles for MemSystem {
         }
     }
 
-    fn is_blocked(&self, _path: &str) -> bool {
-        false
-    }
-
     fn find(&self, path: &str) -> io::Result<Option<FoundFile>> {
         let found = FoundFile {
             kind: FileKind::Plain,

@@ -76,10 +76,6 @@ impl<'a> SystemFiles for FailingSystem<'a> {
         self.files.make_folder(path)
     }
 
-    fn is_blocked(&self, path: &str) -> bool {
-        self.files.is_blocked(path)
-    }
-
     fn find(&self, path: &str) -> io::Result<Option<FoundFile>> {
         self.files.find(path)
     }

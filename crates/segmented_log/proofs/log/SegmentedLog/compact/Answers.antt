@@ -2,7 +2,9 @@ use Rattle.std.proofs.Common.{rules, inl, inr, ⊎_elim, ◌≡◌, ◌<◌, ◌
 use Rattle.std.specs.Prelude.{IsTrue, IsErrOf}
 use Rattle.store_base.proofs.ListLemmas.{risen_later}
 use Rattle.store_format.specs.Block.{doc, damaged}
-use Rattle.segmented_log.specs.declared.error.LogError.TheVariants.{Failed, Full, Damaged}
+use Rattle.std.specs.Result.{IsErrAnd}
+use Rattle.segmented_log.specs.Causes.{IsFailure}
+use Rattle.segmented_log.specs.declared.error.LogError.TheVariants.{Full, Damaged}
 use Rattle.store_folder.specs.Moments.{LeavesOnly}
 use Rattle.store_folder.proofs.Steps.{started, weaker, joined}
 use Rattle.segmented_log.specs.Log.{IsLog}
@@ -122,7 +124,7 @@ returns-clause-any_moment g c = λ h works. moments_now g (goal.at.returns-claus
 pub returns-in_err-next-clause-failed : goal.returns-in_err-next-clause-failed
 returns-in_err-next-clause-failed g c = λ h is.
     let F = g.F.Folder in
-    let refused : IsErrOf c.compact_next.result Failed = search rules in
+    let refused : IsErrAnd c.compact_next.result IsFailure = search rules in
     ⊎_elim
     (λ risen. inl (risen_later _ _ _ c.loop-next.invariant.failures risen))
     (λ has. inr (changes_has (F.seen c.args.self.now.folder) (F.seen c.loop-next.self.folder) (c.loop-next.invariant.files h) has))

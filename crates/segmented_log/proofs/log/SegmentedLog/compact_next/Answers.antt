@@ -5,8 +5,9 @@ use Rattle.std.proofs.lemmas.List.{length-map}
 use Rattle.std.proofs.lemmas.List.Edits.{length-remove}
 use Rattle.store_folder.specs.Moments.{LeavesOnly}
 use Rattle.store_folder.proofs.Steps.{weaker, joined}
-use Rattle.segmented_log.specs.declared.error.LogError.TheVariants.{Failed, Full, Damaged}
-use Rattle.segmented_log.specs.Causes.{IsFault}
+use Rattle.std.specs.Result.{IsErrAnd}
+use Rattle.segmented_log.specs.declared.error.LogError.TheVariants.{Full, Damaged}
+use Rattle.segmented_log.specs.Causes.{IsFault, IsFailure}
 use Rattle.segmented_log.specs.Parts.{part_of, sealed_of, parts_of, AreParts}
 use Rattle.segmented_log.specs.Log.{Holds, IsLog}
 use Rattle.segmented_log.specs.Compacting.{IsStep, Compacts, stay, join, remove_next, AreApart, IsCompacted}
@@ -201,7 +202,7 @@ returns-in_err-join-clause-failed g c = λ h is. inr (c.join.ensures.there h)
 
 pub returns-in_err-remove_covered-clause-failed : goal.returns-in_err-remove_covered-clause-failed
 returns-in_err-remove_covered-clause-failed g c = λ h is.
-    let refused : IsErrOf c.remove_covered.result Failed = search rules in
+    let refused : IsErrAnd c.remove_covered.result IsFailure = search rules in
     inl (c.remove_covered.ensures.failed refused)
 
 pub returns-in_err-remove_covered-clause-damaged : goal.returns-in_err-remove_covered-clause-damaged

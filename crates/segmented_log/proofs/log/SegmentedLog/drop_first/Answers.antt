@@ -15,8 +15,6 @@ use Rattle.segmented_log.proofs.DropLemmas.{rest_itself, drops_none, dropped_res
 use Rattle.segmented_log.specs.Names.{tail_name}
 use Rattle.segmented_log.proofs.NameLemmas.{segment_no_tail}
 use Rattle.segmented_log.proofs.log.SegmentedLog.drop_first.Goals.{In-Some}
-use Rattle.segmented_log.proofs.CauseLemmas.{ok_alone}
-use Rattle.segmented_log.specs.declared.error.LogError.TheVariants.{Failed}
 use Rattle.segmented_log.proofs.StepLemmas.{next_dropped}
 use Rattle.segmented_log.specs.Compacting.{AreNext}
 use Rattle.segmented_log.proofs.log.SegmentedLog.drop_first.Goals as goal
@@ -155,9 +153,3 @@ invariant_of-self-2 g c =
         OnFalse_from log.may_overlap _ (λ none. subst (AreNext next) (sym left) (next_dropped log.first c.args.number next _ segments (can_go g here) (OnFalse_at none (known.1 h).2))),
       ),
     )
-
-pub returns-in_default-clause-failed : goal.returns-in_default-clause-failed
-returns-in_default-clause-failed g c = λ is. absurd (ok_alone Failed _ is)
-
-pub returns-clause-failed : goal.returns-clause-failed
-returns-clause-failed g c = λ is. absurd (ok_alone Failed _ is)

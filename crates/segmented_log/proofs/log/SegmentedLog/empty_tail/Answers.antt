@@ -17,8 +17,7 @@ use Rattle.segmented_log.proofs.SyncLemmas.{log_stays, begins_there, all_sealed,
 use Rattle.segmented_log.proofs.PartLemmas.{emptied_slots}
 use Rattle.segmented_log.proofs.SealLemmas.{replaced_log}
 use Rattle.segmented_log.proofs.log.SegmentedLog.empty_tail.Goals.{After-deref, After-restart}
-use Rattle.segmented_log.proofs.CauseLemmas.{ok_alone, memory_alone, failed_memory}
-use Rattle.segmented_log.specs.declared.error.LogError.TheVariants.{Failed}
+use Rattle.segmented_log.proofs.CauseLemmas.{no_failure}
 use Rattle.segmented_log.proofs.log.SegmentedLog.empty_tail.Goals as goal
 
 pub returns-in_err-tail-clause-any_moment : goal.returns-in_err-tail-clause-any_moment
@@ -141,11 +140,5 @@ returns-then-len-eq-HEADER-clause-any_moment g c = λ h.
     subst (λ v. LeavesOnly g.F.Folder.moment g.F.Folder.left_since v.folder v.folder (IsLog v.first v.slots)) c.self.view_is
     (log_stays _ _ _ _ _ _ _ _ _ _ settled.0 c.self.inside.folder (g.met.F.Folder.only_now c.self.inside.folder))
 
-pub returns-then-len-eq-HEADER-clause-failed : goal.returns-then-len-eq-HEADER-clause-failed
-returns-then-len-eq-HEADER-clause-failed g c = λ is. absurd (ok_alone Failed _ is)
-
-pub returns-clause-failed : goal.returns-clause-failed
-returns-clause-failed g c = λ is. absurd (ok_alone Failed _ is)
-
 pub returns-in_err-tail-clause-failed : goal.returns-in_err-tail-clause-failed
-returns-in_err-tail-clause-failed g c = λ is. absurd (memory_alone Failed failed_memory _ c.from_residual.ensures.1 is)
+returns-in_err-tail-clause-failed g c = λ is. absurd (no_failure _ c.from_residual.ensures.1 is)

@@ -1,14 +1,15 @@
 use Rattle.std.proofs.Common.{◌≡◌, ◌⊎◌, ◌<◌, ◌∙◌, map, refl, sym, ap, subst, arith}
 use Rattle.std.proofs.lemmas.Bool.{OnFalse_at, false≢true}
-use Rattle.std.specs.Prelude.{IsErrOf, IsTrue}
+use Rattle.std.specs.Prelude.{IsTrue}
 use Rattle.std.specs.List.{sum_by}
 use Rattle.store_base.specs.Counts.{HasRisen}
+use Rattle.std.specs.Result.{IsErrAnd}
 use Rattle.segmented_log.specs.Parts.{part_of, sealed_of, parts_of, end_from, log_slots, AreParts}
 use Rattle.segmented_log.specs.Log.{slot_at, Gives}
 use Rattle.segmented_log.specs.Settled.{IsSettledTail}
 use Rattle.segmented_log.specs.Bounds.{AreBounds}
-use Rattle.segmented_log.specs.declared.error.LogError.TheVariants.{Broken, Failed}
-use Rattle.segmented_log.specs.Causes.{IsOfReads}
+use Rattle.segmented_log.specs.declared.error.LogError.TheVariants.{Broken}
+use Rattle.segmented_log.specs.Causes.{IsOfReads, IsFailure}
 use Rattle.segmented_log.proofs.CauseLemmas.{never}
 use Rattle.segmented_log.proofs.RunOfParts.{view_parts}
 use Rattle.segmented_log.proofs.SyncLemmas.{both_on_false}
@@ -73,4 +74,4 @@ returns-clause-sealed g c = λ h is.
 
 pub returns-clause-steady : goal.returns-clause-steady
 returns-clause-steady g c =
-    subst (λ v. IsErrOf c.get_record.result Failed ⊎ (sum_by (λ s. s.reader.file.failures) c.get_record.new.segments.items ≡ v.read_failures)) c.self.view_is c.get_record.ensures.steady
+    subst (λ v. IsErrAnd c.get_record.result IsFailure ⊎ (sum_by (λ s. s.reader.file.failures) c.get_record.new.segments.items ≡ v.read_failures)) c.self.view_is c.get_record.ensures.steady

@@ -11,12 +11,13 @@ use Rattle.store_folder.specs.Folder.{Look, ElsewhereOfBoth}
 use Rattle.store_folder.specs.Publishing.{part}
 use Rattle.log_tail.specs.declared.batches.Place.{Place}
 use Rattle.log_tail.specs.Place.{contents, EndsBy}
+use Rattle.std.specs.Result.{IsErrAnd}
 use Rattle.segmented_log.specs.Compacting.{AreNext}
 use Rattle.segmented_log.specs.Parts.{Part, part_of, joined, log_slots}
 use Rattle.segmented_log.specs.Log.{HasSegment, IsLog}
 use Rattle.segmented_log.specs.Settled.{part_at, AddsSegment, IsSettledTail, IsSettledFolder}
-use Rattle.segmented_log.specs.declared.error.LogError.TheVariants.{Failed, Full}
-use Rattle.segmented_log.specs.Causes.{HasNoRoom, HasNoRoomForLast, HasNewSegment, KeepsOthers}
+use Rattle.segmented_log.specs.declared.error.LogError.TheVariants.{Full}
+use Rattle.segmented_log.specs.Causes.{HasNoRoom, HasNoRoomForLast, HasNewSegment, KeepsOthers, IsFailure}
 use Rattle.segmented_log.proofs.CauseLemmas.{none_sealed}
 use Rattle.segmented_log.specs.Sealing.{AddsPacked}
 use Rattle.segmented_log.proofs.FrameLemmas.{keeps_all, keeps_new}
@@ -188,7 +189,7 @@ returns-in_err-segment-clause-failed g c = λ h is.
     let F = g.F.Folder in
     let log = c.self.inside in
     let new = c.add_segment.new.folder in
-    let failed : IsErrOf c.add_segment.result Failed = search rules in
+    let failed : IsErrAnd c.add_segment.result IsFailure = search rules in
     subst (λ v. HasRisen (F.failures v.folder) (F.failures new) ⊎ HasNewSegment (F.seen v.folder) (F.seen new)) c.self.view_is
     (⊎_elim (λ risen. inl risen) (λ some. inr (log.sealed, none_is g here h, some)) (c.add_segment.ensures.failed h failed))
 

@@ -20,8 +20,6 @@ use Rattle.segmented_log.proofs.CompactLemmas.{changes_removed, segment_there}
 use Rattle.segmented_log.proofs.RunOfParts.{covered_moved, view_parts, covered_is, map_removed, covered_left, without, covered_same, covered_log, covered_folder}
 use Rattle.segmented_log.proofs.NameLemmas.{segment_no_tail}
 use Rattle.segmented_log.proofs.log.SegmentedLog.remove_covered.Goals.{After-remove_segment, After-remove}
-use Rattle.segmented_log.proofs.CauseLemmas.{ok_alone}
-use Rattle.segmented_log.specs.declared.error.LogError.TheVariants.{Failed}
 use Rattle.std.specs.Bool.{OnFalse}
 use Rattle.segmented_log.proofs.log.SegmentedLog.remove_covered.Goals as goal
 
@@ -136,9 +134,6 @@ invariant_of-self-2 g c = (
         subst (λ l. OnFalse c.may_overlap-self-inside.result (AreNext log.first (map (λ s. part_of s.first s.reader) l))) c.deref.ensures.value c.may_overlap-self-inside.ensures,
       ),
 )
-
-pub returns-clause-failed : goal.returns-clause-failed
-returns-clause-failed g c = λ is. absurd (ok_alone Failed _ is)
 
 pub returns-clause-packed : goal.returns-clause-packed
 returns-clause-packed g c = λ h.

@@ -5,12 +5,13 @@ use Rattle.std.proofs.lemmas.Result.{on_ok_weaker}
 use Rattle.store_folder.proofs.Steps.{joined, weaker}
 use Rattle.store_format.specs.Block.{doc}
 use Rattle.store_base.proofs.ListLemmas.{risen_later}
-use Rattle.segmented_log.specs.declared.error.LogError.TheVariants.{Failed, Full, Broken}
-use Rattle.segmented_log.specs.Causes.{IsFault, HasNoRoomForLast}
+use Rattle.std.specs.Result.{IsErrAnd}
+use Rattle.segmented_log.specs.declared.error.LogError.TheVariants.{Full, Broken}
+use Rattle.segmented_log.specs.Causes.{IsFault, HasNoRoomForLast, IsFailure}
 use Rattle.segmented_log.specs.Names.{segment_name}
 use Rattle.segmented_log.specs.Log.{IsLog, KeepsOrAdds}
 use Rattle.segmented_log.proofs.NameLemmas.{segment_no_tail, segment_no_tail_beside}
-use Rattle.segmented_log.proofs.CauseLemmas.{never, err_alone, broken_failed, broken_full}
+use Rattle.segmented_log.proofs.CauseLemmas.{never, err_alone, broken_full}
 use Rattle.segmented_log.proofs.FrameLemmas.{keeps_all, keeps_after_tail}
 use Rattle.segmented_log.proofs.PackLemmas.{packs_after_tail}
 use Rattle.segmented_log.proofs.SyncLemmas.{nothing_pending, always_ok}
@@ -51,7 +52,7 @@ returns-then-is_empty-clause-full g c = λ h is.
 
 pub returns-in_err-write_pending-clause-failed : goal.returns-in_err-write_pending-clause-failed
 returns-in_err-write_pending-clause-failed g c = λ h is.
-    let failed : IsErrOf c.write_pending.result Failed = search rules in
+    let failed : IsErrAnd c.write_pending.result IsFailure = search rules in
     inl (c.write_pending.ensures.failed failed)
 
 pub returns-in_err-write_pending-clause-full : goal.returns-in_err-write_pending-clause-full
@@ -67,9 +68,6 @@ returns-clause-failed g c = λ h is.
 
 pub returns-clause-full : goal.returns-clause-full
 returns-clause-full g c = λ h is. subst (λ a. HasNoRoomForLast a) (c.in_ok-write_pending.ensures.acknowledged h) (c.seal_large-2.ensures.full h is)
-
-pub returns-then-self-clause-failed : goal.returns-then-self-clause-failed
-returns-then-self-clause-failed g c = λ h is. absurd (err_alone Broken Failed broken_failed is)
 
 pub returns-then-self-clause-full : goal.returns-then-self-clause-full
 returns-then-self-clause-full g c = λ h is. absurd (err_alone Broken Full broken_full is)

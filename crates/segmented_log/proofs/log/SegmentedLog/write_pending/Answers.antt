@@ -17,8 +17,7 @@ use Rattle.segmented_log.specs.Settled.{TailIsKept, PutsBatch}
 use Rattle.segmented_log.proofs.SyncLemmas.{settled_batch, folder_batch, slots_batch, log_on_disk, new_size, seam_front, seam_back}
 use Rattle.segmented_log.proofs.TailLemmas.{keeps_or_adds}
 use Rattle.segmented_log.proofs.log.SegmentedLog.write_pending.Goals.{After-place_batch, After-bytes}
-use Rattle.segmented_log.proofs.CauseLemmas.{ok_alone, memory_alone, failed_memory}
-use Rattle.segmented_log.specs.declared.error.LogError.TheVariants.{Failed}
+use Rattle.segmented_log.proofs.CauseLemmas.{no_failure}
 use Rattle.segmented_log.proofs.log.SegmentedLog.write_pending.Goals as goal
 
 -- before the batch is written the log is as it was
@@ -157,8 +156,5 @@ invariant_of-self-2 g c =
           ),
     )
 
-pub returns-clause-failed : goal.returns-clause-failed
-returns-clause-failed g c = λ is. absurd (ok_alone Failed _ is)
-
 pub returns-in_err-place_batch-clause-failed : goal.returns-in_err-place_batch-clause-failed
-returns-in_err-place_batch-clause-failed g c = λ is. absurd (memory_alone Failed failed_memory _ c.from_residual.ensures.1 is)
+returns-in_err-place_batch-clause-failed g c = λ is. absurd (no_failure _ c.from_residual.ensures.1 is)

@@ -1,10 +1,10 @@
 use Rattle.std.proofs.Common.{◌≡◌, ◌⊎◌, map, sym, subst}
-use Rattle.std.specs.Prelude.{IsErrOf}
 use Rattle.std.specs.List.{sum_by}
+use Rattle.std.specs.Result.{IsErrAnd}
+use Rattle.segmented_log.specs.Causes.{IsFailure}
 use Rattle.segmented_log.specs.Parts.{part_of, log_slots}
 use Rattle.segmented_log.specs.Log.{slot_at, Gives}
 use Rattle.segmented_log.specs.Bounds.{AreBounds}
-use Rattle.segmented_log.specs.declared.error.LogError.TheVariants.{Failed}
 use Rattle.segmented_log.proofs.reader.LogReader.get.Goals as goal
 
 pub returns-clause-found : goal.returns-clause-found
@@ -28,4 +28,4 @@ invariant_of-self g c = (
 
 pub returns-clause-steady : goal.returns-clause-steady
 returns-clause-steady g c =
-    subst (λ v. IsErrOf c.get_record.result Failed ⊎ (sum_by (λ s. s.reader.file.failures) c.get_record.new.segments.items ≡ v.read_failures)) c.self.view_is c.get_record.ensures.steady
+    subst (λ v. IsErrAnd c.get_record.result IsFailure ⊎ (sum_by (λ s. s.reader.file.failures) c.get_record.new.segments.items ≡ v.read_failures)) c.self.view_is c.get_record.ensures.steady
