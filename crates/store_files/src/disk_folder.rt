@@ -199,6 +199,13 @@ impl<S: SystemFiles> DiskFolder<S> {
         self.mark.is_kept
     }
 
+    /// The system that it is in.
+    pub fn system(&self) -> &S
+        ensures { result.now ≡ self.now.system }
+    {
+        &self.system
+    }
+
     /// The path of the file of this name.
     pub(crate) fn path_at(&self, name: &str) -> io::Result<String>
         ensures kind { IfErr result (λ e. error_kind e ≢ ErrorKind.NotFound) }

@@ -8,6 +8,7 @@ ghost use Rattle.system_model.specs.Made.{empty, AreMade};
 pub mod content;
 pub mod mem_system;
 
+pub use content::Step;
 pub use mem_system::{MemSystem, MemSystemFile};
 
 /// What holds of a folder at every moment, by `SystemFiles`, holds of an empty one whatever calls make of it. So it is

@@ -7,7 +7,7 @@ ghost use Rattle.store_folder.specs.Folder.{bytes_of};
 ghost use Rattle.store_files.specs.Disk.{replay, seen};
 ghost use Rattle.store_files.specs.Paths.{IsPath, IsIn};
 ghost use Rattle.system_model.specs.Made.{empty};
-ghost use Rattle.system_model.specs.System.{changes_in, change_of, are_made};
+ghost use Rattle.system_model.specs.System.{changes_in, change_of, are_made, made_by};
 
 use crate::content::{Content, Step, name_of, number_of};
 use std::alloc::{AllocError, Global};
@@ -108,6 +108,13 @@ impl MemSystem {
             is_locked: Cell::new(false),
             mark: Mark::blank(alloc),
         })
+    }
+
+    /// The changes that were made, the first of them first.
+    pub fn steps(&self) -> &[Step]
+        ensures { made_by result.now ≡ self.now.changes }
+    {
+        &self.steps
     }
 
     // The name of the file of a path.

@@ -12,6 +12,8 @@ mod folder_runs;
 #[cfg(test)]
 mod readers;
 #[cfg(test)]
+mod system_runs;
+#[cfg(test)]
 mod torn_files;
 #[cfg(test)]
 mod torn_logs;
