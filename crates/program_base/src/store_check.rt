@@ -2,7 +2,7 @@
 
 use crate::failure::FailureCause;
 use crate::progress::Progress;
-use crate::store_file::{DiskReader, NotRead, StorePath, reader_of};
+use crate::store_file::{DiskReader, NotRead, StorePath, reader_of, with_reason};
 use crate::verify_output::{Found, ReportForm};
 use store_commands::broken_part::{BrokenPart, broken_part};
 use store_commands::checking::check_blocks;
@@ -38,7 +38,10 @@ impl Verifying {
     /// What is found in a store.
     pub fn look_at(&self, rt: &HostRuntime, store: StorePath<'_>) -> Result<Found, FailureCause> {
         match reader_of(rt, store.file(rt)?) {
-            Ok(mut reader) => self.look_over(rt, &mut reader),
+            Ok(mut reader) => {
+                let found = self.look_over(rt, &mut reader);
+                with_reason(&reader, found)
+            }
             Err(NotRead::Store(mut refusal)) => {
                 match broken_part(rt.alloc(), &mut refusal.file, refusal.error)? {
                     BrokenPart::Footer => Ok(Found::Footer(refusal.error)),

@@ -36,10 +36,29 @@ impl<T: Drop> From<AllocFailed<T>> for NotRead {
 impl From<NotRead> for FailureCause {
     fn from(refusal: NotRead) -> FailureCause {
         match refusal {
-            NotRead::Store(refusal) => FailureCause::Store(refusal.error),
+            NotRead::Store(refusal) => {
+                let cause = FailureCause::Store(refusal.error);
+                explained(refusal.file.handle(), cause)
+            }
             NotRead::Memory => FailureCause::Store(StoreError::Memory),
         }
     }
+}
+
+/// Why a call on a store failed: what the system said, if a read of this file failed.
+pub fn explained(file: &DiskFile<OsFile>, cause: FailureCause) -> FailureCause {
+    match (cause, file.read_error()) {
+        (FailureCause::Store(StoreError::Read), Some(error)) => FailureCause::System(error),
+        (cause, _) => cause,
+    }
+}
+
+/// What a call on a reader gave, or why it failed.
+pub fn with_reason<T: Drop>(
+    reader: &OpenReader,
+    given: Result<T, FailureCause>,
+) -> Result<T, FailureCause> {
+    given.map_err(|cause| explained(reader.file(), cause))
 }
 
 // How many blocks are kept: documents are mostly asked for in the order of their ids.

@@ -9,7 +9,7 @@ use program_base::command_words::{Argument, command_of};
 use program_base::document_output::{self, DocumentForm, form_of, standard_output};
 use program_base::failure::{Failure, FailureCause, to_output, with_file};
 use program_base::status::Status;
-use program_base::store_file::{DiskReader, StorePath, store_path};
+use program_base::store_file::{DiskReader, StorePath, store_path, with_reason};
 use program_base::word_files::{IdWord, id_words, words_in};
 use std::alloc::{AllocError, Global};
 use std::io::Write;
@@ -93,7 +93,8 @@ impl<'p, 'w> Printing<'p, 'w> {
     // Prints the documents of a store, and returns which are damaged, if they are to be skipped.
     fn print(&self, rt: &HostRuntime, store: StorePath<'_>) -> Result<Vec<IdSpan>, FailureCause> {
         let mut reader = store.reader(rt)?;
-        self.print_documents(rt, &mut reader)
+        let printed = self.print_documents(rt, &mut reader);
+        with_reason(&reader, printed)
     }
 }
 

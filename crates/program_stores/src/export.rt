@@ -7,7 +7,7 @@ use program_base::command_words::{Argument, command_of};
 use program_base::failure::{Failure, FailureCause, with_file};
 use program_base::output_path::{OutputPath, output_of};
 use program_base::progress::Progress;
-use program_base::store_file::StorePath;
+use program_base::store_file::{OpenReader, StorePath, explained};
 use program_base::store_output::{OutputPlace, output_place, summarize};
 use std::alloc::{AllocError, Global};
 use store_files::SystemFiles;
@@ -45,13 +45,25 @@ pub fn command<'a>(alloc: Global) -> Result<Command<'a>, AllocError> {
 }
 
 // The failure of an export: of the store that is read, or of the file that is written.
-fn failure_of(alloc: Global, input: &str, out: &str, error: FillError<StoreError>) -> Failure {
+fn failure_of(
+    alloc: Global,
+    reader: &OpenReader,
+    input: &str,
+    out: &str,
+    error: FillError<StoreError>,
+) -> Failure {
     match error {
         FillError::Folder(error) => Failure::at_file(alloc, out, FailureCause::of_output(error)),
         FillError::Filling(StoreError::Failed(cause)) => {
             Failure::at_file(alloc, out, FailureCause::Store(StoreError::Failed(cause)))
         }
-        FillError::Filling(error) => Failure::at_file(alloc, input, FailureCause::Store(error)),
+        FillError::Filling(error) => {
+            Failure::at_file(
+                alloc,
+                input,
+                explained(reader.file(), FailureCause::Store(error)),
+            )
+        }
         FillError::Store(error) => Failure::at_file(alloc, out, FailureCause::Store(error)),
     }
 }
@@ -70,7 +82,7 @@ fn export<S: SystemFiles>(
     let OutputPlace { folder, name } = &mut *place;
     match publish_export(alloc, folder, name.as_str(), &mut *reader, PART_BYTES) {
         Ok(written) => summarize(rt, output.path, written, progress),
-        Err(error) => Err(failure_of(alloc, store.path, output.path, error)),
+        Err(error) => Err(failure_of(alloc, &reader, store.path, output.path, error)),
     }
 }
 

@@ -1,13 +1,14 @@
 //! `get`: prints documents by their numbers.
 
 use clap::{ArgMatches, Command};
+use docstore::{DocId, OwnedBytes};
 use program_base::arguments;
 use program_base::command_words::{Argument, command_of};
 use program_base::document_output::{self, DocumentForm, DocumentOutput, form_of, standard_output};
 use program_base::failure::{Failure, FailureCause, to_output, with_file};
 use program_base::listed_numbers::{NumberPrinter, print_listed};
 use program_base::number_words::check_id_word;
-use program_base::store_file::{DiskReader, StorePath, store_path};
+use program_base::store_file::{DiskReader, StorePath, store_path, with_reason};
 use std::alloc::{AllocError, Global};
 use std::io::Write;
 use store_commands::id_range::range_of;
@@ -64,10 +65,16 @@ impl<'a> Printer<'a> {
         })
     }
 
+    // A document.
+    fn document(&mut self, doc_id: DocId) -> Result<OwnedBytes, FailureCause> {
+        let document = self.reader.get_document_bytes(self.alloc, doc_id);
+        with_reason(&self.reader, document.map_err(FailureCause::Store))
+    }
+
     // Prints the documents of a range.
     fn print(&mut self, range: IdRange) -> Result<(), FailureCause> {
         for doc_id in range.among(self.reader.num_docs())? {
-            let document = self.reader.get_document_bytes(self.alloc, doc_id)?;
+            let document = self.document(doc_id)?;
             let number = u64::from(doc_id);
             self.form
                 .write(self.alloc, &mut self.output, number, document.as_slice())?;

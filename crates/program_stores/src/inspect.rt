@@ -7,7 +7,7 @@ use program_base::arguments;
 use program_base::command_words::{Argument, command_of};
 use program_base::failure::{Failure, FailureCause, with_file};
 use program_base::output_path::OutputPath;
-use program_base::store_file::{DiskReader, StorePath, store_path};
+use program_base::store_file::{DiskReader, StorePath, store_path, with_reason};
 use std::alloc::{AllocError, Global};
 use std::fs;
 use store_commands::block_documents::documents_with_room;
@@ -191,7 +191,8 @@ fn page_on(
 fn page_of(rt: &HostRuntime, store: StorePath<'_>) -> Result<String, FailureCause> {
     let mut reader = store.reader(rt)?;
     let file_bytes = fs::metadata(rt, store.path)?.len();
-    page_on(rt.alloc(), store.path, file_bytes, &mut reader)
+    let page = page_on(rt.alloc(), store.path, file_bytes, &mut reader);
+    with_reason(&reader, page)
 }
 
 // Writes the page.

@@ -3,7 +3,7 @@
 use crate::stat_output::print_lines;
 use docstore::{DataPart, block_read_index};
 use program_base::failure::{FailureCause, to_output};
-use program_base::store_file::{DiskReader, StorePath};
+use program_base::store_file::{DiskReader, StorePath, with_reason};
 use std::alloc::{AllocError, Global};
 use store_commands::store_numbers::numbers_in;
 use store_page::excerpts::push_hex;
@@ -76,5 +76,6 @@ pub fn print_store(rt: &HostRuntime, store: StorePath<'_>) -> Result<(), Failure
     let mut reader = store.reader(rt)?;
     let numbers = numbers_in(rt.alloc(), &*reader)?;
     print_lines(rt, store.path, &numbers)?;
-    print_blocks(rt, &mut reader)
+    let printed = print_blocks(rt, &mut reader);
+    with_reason(&reader, printed)
 }
