@@ -230,7 +230,7 @@ impl Written {
             Ok(Some(found)) => Ok(possible.contains(&found)),
             Ok(None) => Ok(false),
             Err(LogError::Changed) => Ok(true),
-            Err(LogError::Failed) => Ok(open > to),
+            Err(LogError::Failed(_)) => Ok(open > to),
             Err(error) => Err(error)?,
         }
     }

@@ -131,8 +131,8 @@ impl Written {
 }
 
 // The log of a process that makes these calls.
-fn written(alloc: Global, calls: &[Call], commit: Commit) -> Result<Written, Fail> {
-    let folder = DiskFolder::create(alloc, MemSystem::new(alloc, "f")?, "f")?;
+fn write_log(alloc: Global, calls: &[Call], commit: Commit) -> Result<Written, Fail> {
+    let folder = DiskFolder::open(alloc, MemSystem::new(alloc, "f")?, "f")?;
     let log = SegmentedLog::open(alloc, folder, SEAL_SIZE, commit);
     let mut log = Box::new(alloc, log.map_err(|refusal| refusal.0)?)?;
     call_all(&mut *log, calls)?;
@@ -155,7 +155,7 @@ fn survived(alloc: Global, commit: Commit, seed: u64) -> Result<Option<usize>, F
     let mut dice = Dice::new(seed);
     let (mut count, mut acknowledged) = (0, 0);
     for end in 0..=calls.len() {
-        let written = written(alloc, calls.get(..end).unwrap_or(&[]), commit)?;
+        let written = write_log(alloc, calls.get(..end).unwrap_or(&[]), commit)?;
         if !written.keeps(alloc, count, acknowledged, &mut dice)? {
             return Ok(None);
         }
