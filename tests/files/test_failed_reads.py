@@ -1,0 +1,42 @@
+"""A read that fails is reported with the file and what the system said, by each command that reads."""
+
+import os
+import subprocess
+
+from files.old_store import OldStoreCase, lines
+
+
+class FailedReads(OldStoreCase):
+    WIDE = lines(20_000, b"a line of some length")
+
+    def setUp(self):
+        super().setUp()
+        self.require("strace")
+
+    def assert_reported(self, name, path, when, *words):
+        """The read of this path that has this number fails, and each one after it."""
+        inject = ["-f", "-o", os.devnull, "-P", path, "-e", f"inject=pread64:error=EIO:when={when}+"]
+        done = subprocess.run(
+            ["strace", *inject, self.program.path, *words],
+            cwd=self.folder,
+            stdout=subprocess.DEVNULL,
+            stderr=subprocess.PIPE,
+            timeout=60,
+        )
+        with self.subTest(words=words, when=when):
+            self.assertEqual(done.returncode, 3)
+            self.assertIn(f"zevkhadun: {name}: Input/output error", done.stderr.decode())
+
+    def test_each_command_on_a_store_names_the_file_and_the_reason(self):
+        self.pack("a.store", self.WIDE)
+        for words in (["get", "a.store", "7"], ["cat", "a.store"], ["verify", "a.store"], ["inspect", "a.store"]):
+            for when in (1, 2, 3):
+                self.assert_reported("a.store", "a.store", when, *words)
+        self.assert_reported("a.store", "a.store", 3, "export", "a.store", "out", "--tantivy")
+
+    def test_each_command_on_a_log_names_the_folder_and_the_reason(self):
+        self.program.gives("log", "append", "ev", input=self.WIDE)
+        self.program.gives("log", "seal", "ev")
+        (segment,) = [name for name in os.listdir(self.folder / "ev") if name.endswith(".store")]
+        for words in (["log", "get", "ev", "7"], ["log", "cat", "ev"]):
+            self.assert_reported("ev", f"ev/{segment}", 3, *words)
