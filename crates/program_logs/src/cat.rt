@@ -42,7 +42,7 @@ pub fn command<'a>(alloc: Global) -> Result<Command<'a>, AllocError> {
 }
 
 // Prints the records of an opened log from a number on.
-fn print_records<S: SystemFiles>(
+fn print_records<S: SystemFiles + 'static>(
     alloc: Global,
     read: &mut ReadLog<'_, S>,
     output: &mut DocumentOutput<'_>,
@@ -57,7 +57,7 @@ fn print_records<S: SystemFiles>(
 }
 
 // Prints the records of the log at a path from a number on.
-fn print<S: SystemFiles>(
+fn print<S: SystemFiles + 'static>(
     rt: &HostRuntime,
     system: &S,
     path: &str,
@@ -73,7 +73,7 @@ fn print<S: SystemFiles>(
 }
 
 /// Prints the records.
-pub fn run<S: SystemFiles>(
+pub fn run<S: SystemFiles + 'static>(
     rt: &HostRuntime,
     system: &S,
     matches: &ArgMatches<'_>,

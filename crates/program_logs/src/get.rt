@@ -45,14 +45,14 @@ pub fn command<'a>(alloc: Global) -> Result<Command<'a>, AllocError> {
 
 // An opened log, and the output for its records.
 #[derive(Drop)]
-struct Printer<'a, S: SystemFiles> {
+struct Printer<'a, S: SystemFiles + 'static> {
     alloc: Global,
     read: ReadLog<'a, S>,
     output: DocumentOutput<'a>,
     form: DocumentForm,
 }
 
-impl<'a, S: SystemFiles> Printer<'a, S> {
+impl<'a, S: SystemFiles + 'static> Printer<'a, S> {
     // Prints the records of a range.
     fn print(&mut self, range: NumberRange) -> Result<(), FailureCause> {
         for number in range.among(self.read.first(), self.read.end())? {
@@ -75,7 +75,7 @@ impl<'a, S: SystemFiles> Printer<'a, S> {
     }
 }
 
-impl<'a, S: SystemFiles> NumberPrinter for Printer<'a, S> {
+impl<'a, S: SystemFiles + 'static> NumberPrinter for Printer<'a, S> {
     fn print_word(&mut self, word: &str) -> Result<(), FailureCause> {
         let range = NumberRange::parse(self.alloc, word)?;
         self.print(range)
@@ -103,7 +103,7 @@ fn check_words(alloc: Global, words: &[&str]) -> Result<(), FailureCause> {
 }
 
 // Prints the records that words name, or those whose numbers are in the standard input.
-fn print<S: SystemFiles>(
+fn print<S: SystemFiles + 'static>(
     rt: &HostRuntime,
     system: &S,
     path: &str,
@@ -125,7 +125,7 @@ fn print<S: SystemFiles>(
 }
 
 /// Prints the records.
-pub fn run<S: SystemFiles>(
+pub fn run<S: SystemFiles + 'static>(
     rt: &HostRuntime,
     system: &S,
     matches: &ArgMatches<'_>,

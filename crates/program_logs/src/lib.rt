@@ -86,7 +86,7 @@ fn is_seen(rt: &HostRuntime, matches: &ArgMatches<'_>) -> bool {
 }
 
 /// Does what the words ask.
-pub fn run<S: SystemFiles>(
+pub fn run<S: SystemFiles + 'static>(
     rt: &HostRuntime,
     system: S,
     matches: &ArgMatches<'_>,

@@ -18,7 +18,7 @@ const TRIES: usize = 1000;
 /// A log that is open to be read, as it was when it was opened first. Folder and log are in boxes: a function that owns
 /// them moves and drops one value each, and not all of its parts.
 #[derive(Drop)]
-pub struct ReadLog<'a, S: SystemFiles> {
+pub struct ReadLog<'a, S: SystemFiles + 'static> {
     folder: Box<DiskFolder<&'a S>>,
     log: Box<LogReader<DiskFolder<&'a S>>>,
     end: u64,
@@ -47,7 +47,7 @@ fn open<F: ReadableFolder>(alloc: Global, folder: &F) -> Result<Box<LogReader<F>
 
 /// Opens a log that is there, to read it. Nothing is changed, and a writer may go on. Of a log whose tail is damaged it
 /// has the records before the damage.
-pub fn open_to_read<'a, S: SystemFiles>(
+pub fn open_to_read<'a, S: SystemFiles + 'static>(
     rt: &HostRuntime,
     system: &'a S,
     path: &str,
@@ -63,7 +63,7 @@ pub fn open_to_read<'a, S: SystemFiles>(
     Ok(ReadLog { folder, log, end })
 }
 
-impl<'a, S: SystemFiles> ReadLog<'a, S> {
+impl<'a, S: SystemFiles + 'static> ReadLog<'a, S> {
     /// The number of the first record.
     pub fn first(&self) -> u64 {
         self.log.first()

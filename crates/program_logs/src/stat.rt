@@ -64,7 +64,7 @@ fn bytes_of_segments(rt: &HostRuntime, path: &str, segments: &[u64]) -> Result<u
 
 impl LogNumbers {
     // Of the log at a path, which is open.
-    fn of<S: SystemFiles>(
+    fn of<S: SystemFiles + 'static>(
         rt: &HostRuntime,
         path: &str,
         log: &ReadLog<'_, S>,
@@ -98,7 +98,7 @@ impl LogNumbers {
 }
 
 // Prints the numbers of a log, in lines or as JSON.
-fn print<S: SystemFiles>(
+fn print<S: SystemFiles + 'static>(
     rt: &HostRuntime,
     system: &S,
     path: &str,
@@ -118,7 +118,7 @@ fn print<S: SystemFiles>(
 }
 
 /// Prints the numbers of each log. It goes on after one that can't be read, and fails at the end.
-pub fn run<S: SystemFiles>(
+pub fn run<S: SystemFiles + 'static>(
     rt: &HostRuntime,
     system: &S,
     matches: &ArgMatches<'_>,

@@ -163,7 +163,7 @@ fn fault_in(alloc: Global, bytes: &[u8], is_synced: bool) -> Result<Option<TailF
 }
 
 // Whether the tail of a log is whole to its end. What is wrong is reported.
-fn check_tail<S: SystemFiles>(
+fn check_tail<S: SystemFiles + 'static>(
     rt: &HostRuntime,
     system: &S,
     folder: &str,
@@ -183,7 +183,7 @@ fn check_tail<S: SystemFiles>(
 }
 
 // That the numbers of a log's parts are in line is shown by opening it.
-fn print_whole<S: SystemFiles>(
+fn print_whole<S: SystemFiles + 'static>(
     rt: &HostRuntime,
     system: &S,
     path: &str,
@@ -205,7 +205,7 @@ fn print_whole<S: SystemFiles>(
 }
 
 // Prints what is found in a log, and returns whether it is sound.
-fn verify<S: SystemFiles>(
+fn verify<S: SystemFiles + 'static>(
     rt: &HostRuntime,
     system: &S,
     path: &str,
@@ -225,7 +225,7 @@ fn verify<S: SystemFiles>(
 }
 
 /// Prints what is found in each log. It goes on after one that can't be read, and fails at the end.
-pub fn run<S: SystemFiles>(
+pub fn run<S: SystemFiles + 'static>(
     rt: &HostRuntime,
     system: &S,
     matches: &ArgMatches<'_>,

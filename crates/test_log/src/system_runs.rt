@@ -46,7 +46,17 @@ fn event_of(
     })
 }
 
-// The name that the file has which this change makes, if it makes one.
+// Gives the file at a place, if there is one, another name, or none.
+fn put(names: &mut Vec<Option<String>>, place: Option<usize>, name: Option<String>) {
+    let Some(place) = place else {
+        return;
+    };
+    if let Some(found) = names.get_mut(place) {
+        *found = name;
+    }
+}
+
+// Notes which name each file has after a change. The name of the file that it makes, if it makes one.
 fn note(
     alloc: Global,
     names: &mut Vec<Option<String>>,
@@ -56,18 +66,11 @@ fn note(
         Step::Created(name) if place_of(names, name).is_none() => {
             return Ok(Some(String::from_str(alloc, name)?));
         }
-        Step::Removed(name) => {
-            if let Some(place) = place_of(names, name) {
-                names[place] = None;
-            }
-        }
+        Step::Removed(name) => put(names, place_of(names, name), None),
         Step::Moved(from, to) => {
-            if let Some(place) = place_of(names, to) {
-                names[place] = None;
-            }
-            if let Some(place) = place_of(names, from) {
-                names[place] = Some(String::from_str(alloc, to)?);
-            }
+            put(names, place_of(names, to), None);
+            let name = String::from_str(alloc, to)?;
+            put(names, place_of(names, from), Some(name));
         }
         _ => {}
     }

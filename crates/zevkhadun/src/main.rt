@@ -19,7 +19,11 @@ use store_files::{HostFiles, SystemFiles};
 
 // Does what the words ask, over a system through which nothing was changed. A subcommand and the arguments that it
 // requires are there, since clap has seen to it.
-fn run<S: SystemFiles>(rt: &HostRuntime, system: S, matches: &ArgMatches<'_>) -> Result<(), Failure>
+fn run<S: SystemFiles + 'static>(
+    rt: &HostRuntime,
+    system: S,
+    matches: &ArgMatches<'_>,
+) -> Result<(), Failure>
     requires unchanged { IsTrue S.honest → (d : List ℕ) → S.changes system d ≡ [] }
 {
     let Some((name, matches)) = matches.subcommand() else {
