@@ -24,25 +24,37 @@ pub struct ReadLog<'a, S: SystemFiles + 'static> {
     end: u64,
 }
 
-// What a call gave; none where a writer changed the log meanwhile. A segment may be gone since it was listed: the
-// writer joined it with others, or removed it.
-fn unless_changed<T: Drop>(outcome: Result<T, LogError>) -> Result<Option<T>, FailureCause> {
-    match outcome {
-        Ok(value) => Ok(Some(value)),
-        Err(LogError::Changed) => Ok(None),
-        Err(LogError::Failed(reason)) if reason.kind() == ErrorKind::NotFound => Ok(None),
-        Err(error) => Err(refused(error)),
+// Why a call failed, unless a writer changed the log meanwhile. A segment may be gone since it was listed: the writer
+// joined it with others, or removed it.
+fn unless_changed(error: LogError) -> Result<(), LogError> {
+    match error {
+        LogError::Changed => Ok(()),
+        LogError::Failed(reason) if reason.kind() == ErrorKind::NotFound => Ok(()),
+        error => Err(error),
     }
 }
 
 // Opens the log of a folder.
-fn open<F: ReadableFolder>(alloc: Global, folder: &F) -> Result<Box<LogReader<F>>, FailureCause> {
+fn open<F: ReadableFolder>(
+    alloc: Global,
+    folder: F,
+) -> Result<(Box<F>, Box<LogReader<F>>), LogError> {
+    let folder = Box::new(alloc, folder)?;
     for _ in 0..TRIES {
-        if let Some(log) = unless_changed(LogReader::open(alloc, folder))? {
-            return Ok(Box::new(alloc, log)?);
+        match LogReader::open(alloc, &*folder) {
+            Ok(log) => return Ok((folder, Box::new(alloc, log)?)),
+            Err(error) => unless_changed(error)?,
         }
     }
-    Err(FailureCause::BusyLog)
+    Err(LogError::Changed)
+}
+
+// Why a log can't be read. One that was changed at each try is being written.
+fn unread(error: LogError) -> FailureCause {
+    match error {
+        LogError::Changed => FailureCause::BusyLog,
+        error => refused(error),
+    }
 }
 
 /// Opens a log that is there, to read it. Nothing is changed, and a writer may go on. Of a log whose tail is damaged it
@@ -57,10 +69,13 @@ pub fn open_to_read<'a, S: SystemFiles + 'static>(
     check_log(rt, path)?;
     let _plain = segment_numbers(rt, path)?;
     let folder = DiskFolder::open_to_read(rt.alloc(), system, path)?;
-    let folder = Box::new(rt.alloc(), folder)?;
-    let log = open(rt.alloc(), &*folder)?;
-    let end = log.end();
-    Ok(ReadLog { folder, log, end })
+    match open(rt.alloc(), folder) {
+        Ok((folder, log)) => {
+            let end = log.end();
+            Ok(ReadLog { folder, log, end })
+        }
+        Err(error) => Err(unread(error)),
+    }
 }
 
 impl<'a, S: SystemFiles + 'static> ReadLog<'a, S> {
@@ -91,9 +106,11 @@ impl<'a, S: SystemFiles + 'static> ReadLog<'a, S> {
                 Ok(Some(record)) => return Ok(record),
                 Ok(None) => return Err(self.no_record(number)),
                 Err(LogError::Damaged) => return Err(FailureCause::DamagedRecord(number)),
-                Err(error) => unless_changed::<()>(Err(error))?,
-            };
-            unless_changed(self.log.refresh(&self.folder))?;
+                Err(error) => unless_changed(error).map_err(unread)?,
+            }
+            if let Err(error) = self.log.refresh(&self.folder) {
+                unless_changed(error).map_err(unread)?;
+            }
         }
         Err(FailureCause::BusyLog)
     }
