@@ -6,15 +6,6 @@ use std::alloc::Global;
 use std::io;
 use std::io::{BufRead, BufReader, Read};
 
-/// What prints documents or records by their numbers.
-pub trait NumberPrinter {
-    /// Prints those that a word names, a number or a range.
-    fn print_word(&mut self, word: &str) -> Result<(), FailureCause>;
-
-    /// Hands over what was printed.
-    fn flush(&mut self) -> Result<(), FailureCause>;
-}
-
 // What a failed read of the line of this number means.
 fn unread_line(alloc: Global, number: u64, error: io::Error) -> FailureCause {
     if error.kind() != io::ErrorKind::InvalidData {
@@ -26,50 +17,55 @@ fn unread_line(alloc: Global, number: u64, error: io::Error) -> FailureCause {
     }
 }
 
-// Prints those that the word on the line of this number names, if there is one.
-fn print_line<P: NumberPrinter>(
-    printer: &mut P,
-    number: u64,
-    word: &str,
-) -> Result<(), FailureCause> {
-    if word.is_empty() {
-        return Ok(());
-    }
-    match printer.print_word(word) {
-        Err(FailureCause::Words(text)) => Err(FailureCause::Line { number, text }),
-        printed => printed,
-    }
-}
-
-// Prints those on each line of an input, which is read into `line`. What was asked for is printed before more is waited
-// for.
-fn print_lines<P: NumberPrinter, R: Read>(
+/// The words on the lines of an input, each a number or a range, or none.
+#[derive(Drop)]
+pub struct ListedNumbers<R: Read + Drop> {
     alloc: Global,
-    printer: &mut P,
-    input: &mut BufReader<R>,
-    line: &mut String,
-) -> Result<(), FailureCause> {
-    for number in 1..u64::MAX {
-        line.clear();
-        match input.read_line(line) {
-            Ok(0) => break,
-            Ok(_) => {}
-            Err(error) => return Err(unread_line(alloc, number, error)),
-        }
-        print_line(printer, number, line.as_str().trim())?;
-        if input.buffer().is_empty() {
-            printer.flush()?;
-        }
-    }
-    printer.flush()
+    input: Box<BufReader<R>>,
+    line: String,
+    // That of the line that was read last, from 1 on.
+    number: u64,
 }
 
-/// Prints those on each line of the standard input.
-pub fn print_listed<P: NumberPrinter>(
-    rt: &HostRuntime,
-    printer: &mut P,
-) -> Result<(), FailureCause> {
-    let mut input = buffered(rt.alloc(), rt.reader())?;
-    let mut line = String::new(rt.alloc());
-    print_lines(rt.alloc(), printer, &mut *input, &mut line)
+impl<R: Read + Drop> ListedNumbers<R> {
+    /// Those of this input.
+    pub fn new(alloc: Global, input: R) -> Result<ListedNumbers<R>, FailureCause> {
+        Ok(ListedNumbers {
+            alloc,
+            input: buffered(alloc, input)?,
+            line: String::new(alloc),
+            number: 0,
+        })
+    }
+
+    /// Reads the next line, and returns whether there is one.
+    pub fn read(&mut self) -> Result<bool, FailureCause> {
+        self.number = self.number.saturating_add(1);
+        self.line.clear();
+        match self.input.read_line(&mut self.line) {
+            Ok(length) => Ok(length > 0),
+            Err(error) => Err(unread_line(self.alloc, self.number, error)),
+        }
+    }
+
+    /// The word on the line that was read last; no text where there is none.
+    pub fn word(&self) -> &str {
+        self.line.as_str().trim()
+    }
+
+    /// Whether the next line has to be waited for.
+    pub fn is_waited_for(&self) -> bool {
+        self.input.buffer().is_empty()
+    }
+
+    /// What printing the word gave: where the word is wrong its line is named.
+    pub fn outcome(&self, printed: Result<(), FailureCause>) -> Result<(), FailureCause> {
+        match printed {
+            Err(FailureCause::Words(text)) => Err(FailureCause::Line {
+                number: self.number,
+                text,
+            }),
+            printed => printed,
+        }
+    }
 }

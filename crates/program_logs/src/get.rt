@@ -10,7 +10,7 @@ use program_base::arguments;
 use program_base::command_words::{Argument, command_of};
 use program_base::document_output::{self, DocumentForm, DocumentOutput, form_of, standard_output};
 use program_base::failure::{Failure, FailureCause, to_output, with_file};
-use program_base::listed_numbers::{NumberPrinter, print_listed};
+use program_base::listed_numbers::ListedNumbers;
 use std::alloc::{AllocError, Global};
 use std::io::Write;
 use store_files::SystemFiles;
@@ -66,21 +66,39 @@ impl<'a, S: SystemFiles + 'static> Printer<'a, S> {
     // Prints the records of the range that each word names, or of those in the standard input.
     fn print_words(&mut self, rt: &HostRuntime, words: &[&str]) -> Result<(), FailureCause> {
         if is_listed(words) {
-            return print_listed(rt, self);
+            return self.print_listed(rt);
         }
         for word in words {
             self.print_word(word)?;
         }
         self.flush()
     }
-}
 
-impl<'a, S: SystemFiles + 'static> NumberPrinter for Printer<'a, S> {
+    // Prints those that the lines of the standard input name. What was asked for is printed before more is waited for.
+    fn print_listed(&mut self, rt: &HostRuntime) -> Result<(), FailureCause> {
+        let mut numbers = ListedNumbers::new(self.alloc, rt.reader())?;
+        for _ in 0..u64::MAX {
+            if !numbers.read()? {
+                break;
+            }
+            if !numbers.word().is_empty() {
+                let printed = self.print_word(numbers.word());
+                numbers.outcome(printed)?;
+            }
+            if numbers.is_waited_for() {
+                self.flush()?;
+            }
+        }
+        self.flush()
+    }
+
+    // Prints the records that a word names.
     fn print_word(&mut self, word: &str) -> Result<(), FailureCause> {
         let range = NumberRange::parse(self.alloc, word)?;
         self.print(range)
     }
 
+    // Hands over what was printed.
     fn flush(&mut self) -> Result<(), FailureCause> {
         to_output(self.output.flush())
     }

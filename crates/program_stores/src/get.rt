@@ -6,7 +6,7 @@ use program_base::arguments;
 use program_base::command_words::{Argument, command_of};
 use program_base::document_output::{self, DocumentForm, DocumentOutput, form_of, standard_output};
 use program_base::failure::{Failure, FailureCause, to_output, with_file};
-use program_base::listed_numbers::{NumberPrinter, print_listed};
+use program_base::listed_numbers::ListedNumbers;
 use program_base::number_words::check_id_word;
 use program_base::store_file::{DiskReader, StorePath, store_path, with_reason};
 use std::alloc::{AllocError, Global};
@@ -89,15 +89,33 @@ impl<'a> Printer<'a> {
         }
         self.flush()
     }
-}
 
-impl<'a> NumberPrinter for Printer<'a> {
+    // Prints those that the lines of the standard input name. What was asked for is printed before more is waited for.
+    fn print_listed(&mut self, rt: &HostRuntime) -> Result<(), FailureCause> {
+        let mut numbers = ListedNumbers::new(self.alloc, rt.reader())?;
+        for _ in 0..u64::MAX {
+            if !numbers.read()? {
+                break;
+            }
+            if !numbers.word().is_empty() {
+                let printed = self.print_word(numbers.word());
+                numbers.outcome(printed)?;
+            }
+            if numbers.is_waited_for() {
+                self.flush()?;
+            }
+        }
+        self.flush()
+    }
+
+    // Prints the documents that a word names.
     fn print_word(&mut self, word: &str) -> Result<(), FailureCause> {
         check_id_word(self.alloc, word)?;
         let range = range_of(self.alloc, word)?;
         self.print(range)
     }
 
+    // Hands over what was printed.
     fn flush(&mut self) -> Result<(), FailureCause> {
         to_output(self.output.flush())
     }
@@ -109,8 +127,7 @@ fn print_numbers(
     store: StorePath<'_>,
     form: DocumentForm,
 ) -> Result<(), FailureCause> {
-    let mut printer = Printer::open(rt, store, form)?;
-    print_listed(rt, &mut printer)
+    Printer::open(rt, store, form)?.print_listed(rt)
 }
 
 // Prints the documents that words name.
