@@ -12,7 +12,7 @@ use std::os::unix::fs::{MetadataExt, OpenOptionsExt, PermissionsExt, chown};
 use std::rc::Rc;
 use std::{fs, io};
 
-/// The files of the operating system. Of those that are read at most 64 are open at once, together with its clones.
+/// The files of the operating system. Of those that are read at most 64 are open at once.
 #[derive(Drop)]
 pub struct HostFiles {
     rt: HostRuntime,
@@ -25,15 +25,6 @@ impl HostFiles {
         Ok(HostFiles {
             rt: *rt,
             pool: Rc::new(rt.alloc(), FilePool::new())?,
-        })
-    }
-}
-
-impl Clone for HostFiles {
-    fn clone(&self) -> Result<HostFiles, AllocError> {
-        Ok(HostFiles {
-            rt: self.rt,
-            pool: self.pool.clone()?,
         })
     }
 }

@@ -48,8 +48,8 @@ pub struct FoundFile {
 /// and its disk promise of that call: which change it makes to the folder of a path. What is read of a folder after
 /// changes, and what a crash may leave of it, is their definition (`specs/Disk.antt`).
 ///
-/// Not in the model: hard links, other processes that change the folder, modes and owners, what is no plain file, and of
-/// the file `lock` all but its mark.
+/// Not in the model: hard links, other processes that change the folder, modes and owners, what is no plain file, and
+/// of the file `lock` all but its mark.
 pub trait SystemFiles: Drop {
     /// A file or a folder that is open.
     type File: Drop;
