@@ -1,7 +1,5 @@
 //! `log cat`: prints all records in order.
 
-ghost use Rattle.std.specs.Prelude.{◌≡◌, ℕ, List, [], IsTrue};
-
 use crate::read_log::{ReadLog, open_to_read};
 use crate::{FOLDER, folder};
 use clap::{ArgMatches, Command};
@@ -11,7 +9,6 @@ use program_base::document_output::{self, DocumentForm, DocumentOutput, form_of,
 use program_base::failure::{Failure, FailureCause, to_output, with_file};
 use std::alloc::{AllocError, Global};
 use std::io::Write;
-use store_files::SystemFiles;
 
 const EXAMPLE: &str = "\
 It takes no lock, so a writer may go on. It shows the log as it was when it was opened.
@@ -42,9 +39,9 @@ pub fn command<'a>(alloc: Global) -> Result<Command<'a>, AllocError> {
 }
 
 // Prints the records of an opened log from a number on.
-fn print_records<S: SystemFiles + 'static>(
+fn print_records(
     alloc: Global,
-    read: &mut ReadLog<'_, S>,
+    read: &mut ReadLog,
     output: &mut DocumentOutput<'_>,
     form: DocumentForm,
     from: u64,
@@ -57,32 +54,18 @@ fn print_records<S: SystemFiles + 'static>(
 }
 
 // Prints the records of the log at a path from a number on.
-fn print<S: SystemFiles + 'static>(
-    rt: &HostRuntime,
-    system: &S,
-    path: &str,
-    form: DocumentForm,
-    from: u64,
-) -> Result<(), FailureCause>
-    requires unchanged { IsTrue S.honest → (d : List ℕ) → S.changes system.now d ≡ [] }
-{
-    let mut read = open_to_read(rt, system, path)?;
+fn print(rt: &HostRuntime, path: &str, form: DocumentForm, from: u64) -> Result<(), FailureCause> {
+    let mut read = open_to_read(rt, path)?;
     let mut output = standard_output(rt)?;
     print_records(rt.alloc(), &mut read, &mut output, form, from)?;
     read.check_end()
 }
 
 /// Prints the records.
-pub fn run<S: SystemFiles + 'static>(
-    rt: &HostRuntime,
-    system: &S,
-    matches: &ArgMatches<'_>,
-) -> Result<(), Failure>
-    requires unchanged { IsTrue S.honest → (d : List ℕ) → S.changes system.now d ≡ [] }
-{
+pub fn run(rt: &HostRuntime, matches: &ArgMatches<'_>) -> Result<(), Failure> {
     let alloc = rt.alloc();
     let path = arguments::word(alloc, matches, FOLDER)?;
     let form = form_of(alloc, matches)?;
     let from = matches.get_one::<u64>("from").unwrap_or(0);
-    with_file(alloc, path, print(rt, system, path, form, from))
+    with_file(alloc, path, print(rt, path, form, from))
 }

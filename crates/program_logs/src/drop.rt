@@ -1,19 +1,15 @@
 //! `log drop`: removes the oldest records.
 
-ghost use Rattle.std.specs.Prelude.{◌≡◌, ℕ, List, [], IsTrue};
-
 use crate::log_refusal::refused;
 use crate::places::folder_to_write;
+use crate::read_log::open_to_read;
 use crate::record_span::RecordSpan;
 use crate::{FOLDER, folder, is_seen};
 use clap::{ArgMatches, Command};
 use program_base::arguments::{self, wrong_words};
 use program_base::command_words::{Argument, command_of};
 use program_base::failure::{Failure, FailureCause, with_file};
-use segmented_log::LogReader;
 use std::alloc::{AllocError, Global};
-use store_files::SystemFiles;
-use store_folder::ReadableFolder;
 
 // The name of the argument for the first number that stays.
 const BEFORE: &str = "before";
@@ -57,9 +53,9 @@ fn number_of(alloc: Global, matches: &ArgMatches<'_>) -> Result<u64, Failure> {
 // What is said where records that might go stay.
 const STAYING: &str = "a segment goes whole, and records of the tail go once they are sealed";
 
-// How many records before a number the log of a folder has; none where it can't be read.
-fn count_before<F: ReadableFolder>(alloc: Global, folder: &F, number: u64) -> u64 {
-    match LogReader::open(alloc, folder) {
+// How many records before a number a log has; none where it can't be read.
+fn count_before(rt: &HostRuntime, path: &str, number: u64) -> u64 {
+    match open_to_read(rt, path) {
         Ok(log) => number.min(log.end()).saturating_sub(log.first()),
         Err(_) => 0,
     }
@@ -68,11 +64,11 @@ fn count_before<F: ReadableFolder>(alloc: Global, folder: &F, number: u64) -> u6
 // Says which records went, and how many of those before a number stay.
 fn tell(
     rt: &HostRuntime,
+    path: &str,
     dropped: RecordSpan,
     number: u64,
-    staying: u64,
 ) -> Result<(), FailureCause> {
-    match staying {
+    match count_before(rt, path, number) {
         0 => eprintln!(rt; "dropped {dropped}")?,
         staying => eprintln!(rt;
             "dropped {dropped}; of those before {number} stay {staying}: {STAYING}"
@@ -83,24 +79,22 @@ fn tell(
 
 // Removes segments of the log at a path, and says what it did if that is seen. The log is not opened: its tail may be
 // torn or damaged, and the device full.
-fn drop_before<S: SystemFiles>(
+fn drop_before(
     rt: &HostRuntime,
-    system: S,
     path: &str,
     number: u64,
     is_seen: bool,
-) -> Result<(), FailureCause>
-    requires unchanged { IsTrue S.honest → (d : List ℕ) → S.changes system d ≡ [] }
-{
-    let mut folder = folder_to_write(rt, system, path)?;
-    match segmented_log::drop_segments(rt.alloc(), &mut *folder, number) {
+) -> Result<(), FailureCause> {
+    let mut folder = folder_to_write(rt, path)?;
+    let dropped = segmented_log::drop_segments(rt.alloc(), &mut *folder, number);
+    drop(folder);
+    match dropped {
         Ok(gone) if is_seen => {
-            let staying = count_before(rt.alloc(), &*folder, number);
             let dropped = RecordSpan {
                 from: gone.start,
                 to: gone.end,
             };
-            tell(rt, dropped, number, staying)
+            tell(rt, path, dropped, number)
         }
         Ok(_) => Ok(()),
         Err(error) => Err(refused(error)),
@@ -108,16 +102,10 @@ fn drop_before<S: SystemFiles>(
 }
 
 /// Removes the segments.
-pub fn run<S: SystemFiles>(
-    rt: &HostRuntime,
-    system: S,
-    matches: &ArgMatches<'_>,
-) -> Result<(), Failure>
-    requires unchanged { IsTrue S.honest → (d : List ℕ) → S.changes system d ≡ [] }
-{
+pub fn run(rt: &HostRuntime, matches: &ArgMatches<'_>) -> Result<(), Failure> {
     let alloc = rt.alloc();
     let path = arguments::word(alloc, matches, FOLDER)?;
     let number = number_of(alloc, matches)?;
     let is_seen = is_seen(rt, matches);
-    with_file(alloc, path, drop_before(rt, system, path, number, is_seen))
+    with_file(alloc, path, drop_before(rt, path, number, is_seen))
 }

@@ -1,7 +1,5 @@
 //! `log get`: prints records by their numbers.
 
-ghost use Rattle.std.specs.Prelude.{◌≡◌, ℕ, List, [], IsTrue};
-
 use crate::number_range::NumberRange;
 use crate::read_log::{ReadLog, open_to_read};
 use crate::{FOLDER, folder};
@@ -13,7 +11,6 @@ use program_base::failure::{Failure, FailureCause, to_output, with_file};
 use program_base::listed_numbers::ListedNumbers;
 use std::alloc::{AllocError, Global};
 use std::io::Write;
-use store_files::SystemFiles;
 
 const EXAMPLE: &str = "\
 It takes no lock, so a writer may go on. It shows the log as it was when it was opened.
@@ -45,14 +42,14 @@ pub fn command<'a>(alloc: Global) -> Result<Command<'a>, AllocError> {
 
 // An opened log, and the output for its records.
 #[derive(Drop)]
-struct Printer<'a, S: SystemFiles + 'static> {
+struct Printer<'a> {
     alloc: Global,
-    read: ReadLog<'a, S>,
+    read: ReadLog,
     output: DocumentOutput<'a>,
     form: DocumentForm,
 }
 
-impl<'a, S: SystemFiles + 'static> Printer<'a, S> {
+impl<'a> Printer<'a> {
     // Prints the records of a range.
     fn print(&mut self, range: NumberRange) -> Result<(), FailureCause> {
         for number in range.among(self.read.first(), self.read.end())? {
@@ -121,20 +118,17 @@ fn check_words(alloc: Global, words: &[&str]) -> Result<(), FailureCause> {
 }
 
 // Prints the records that words name, or those whose numbers are in the standard input.
-fn print<S: SystemFiles + 'static>(
+fn print(
     rt: &HostRuntime,
-    system: &S,
     path: &str,
     form: DocumentForm,
     words: &[&str],
-) -> Result<(), FailureCause>
-    requires unchanged { IsTrue S.honest → (d : List ℕ) → S.changes system.now d ≡ [] }
-{
+) -> Result<(), FailureCause> {
     let alloc = rt.alloc();
     check_words(alloc, words)?;
     let mut printer = Printer {
         alloc,
-        read: open_to_read(rt, system, path)?,
+        read: open_to_read(rt, path)?,
         output: standard_output(rt)?,
         form,
     };
@@ -143,16 +137,10 @@ fn print<S: SystemFiles + 'static>(
 }
 
 /// Prints the records.
-pub fn run<S: SystemFiles + 'static>(
-    rt: &HostRuntime,
-    system: &S,
-    matches: &ArgMatches<'_>,
-) -> Result<(), Failure>
-    requires unchanged { IsTrue S.honest → (d : List ℕ) → S.changes system.now d ≡ [] }
-{
+pub fn run(rt: &HostRuntime, matches: &ArgMatches<'_>) -> Result<(), Failure> {
     let alloc = rt.alloc();
     let path = arguments::word(alloc, matches, FOLDER)?;
     let form = form_of(alloc, matches)?;
     let words = matches.get_strs("NUMBER").unwrap_or(&[]);
-    with_file(alloc, path, print(rt, system, path, form, words))
+    with_file(alloc, path, print(rt, path, form, words))
 }

@@ -5,7 +5,7 @@ use program_base::failure::FailureCause;
 use segmented_log::{Commit, SegmentedLog};
 use std::alloc::Global;
 use std::{fs, io};
-use store_files::{DiskFolder, SystemFiles};
+use store_files::{DiskFolder, HostFiles};
 use store_folder::Folder;
 
 /// How the tail of a log is written: how a sync puts records on the disk, and the size in bytes past which it is
@@ -16,11 +16,13 @@ pub struct TailOptions {
     pub seal_size: usize,
 }
 
-/// A log that is open to be written, in a box: a function that owns it moves and drops one value, and not all of its
-/// parts.
+// A log on disk, in a box: a function that owns it moves and drops one value, and not all of its parts.
+type DiskLog = Box<SegmentedLog<DiskFolder<HostFiles>>>;
+
+/// A log that is open to be written.
 #[derive(Drop)]
-pub struct OpenedLog<S: SystemFiles> {
-    log: Box<SegmentedLog<DiskFolder<S>>>,
+pub struct OpenedLog {
+    log: DiskLog,
 }
 
 // Whether a file of this name is one that was being published.
@@ -29,10 +31,10 @@ fn is_part(name: &str) -> bool {
 }
 
 // Removes what a call that failed left unpublished.
-fn remove_parts<S: SystemFiles>(
+fn remove_parts(
     rt: &HostRuntime,
     path: &str,
-    folder: &mut DiskFolder<S>,
+    folder: &mut DiskFolder<HostFiles>,
 ) -> io::Result<()> {
     for entry in fs::read_dir(rt, path)? {
         let entry = entry?;
@@ -43,18 +45,21 @@ fn remove_parts<S: SystemFiles>(
     Ok(())
 }
 
-impl<S: SystemFiles> OpenedLog<S> {
+impl OpenedLog {
     /// Opens the log in a folder.
     pub fn open(
         alloc: Global,
-        folder: DiskFolder<S>,
+        folder: DiskFolder<HostFiles>,
         tail: TailOptions,
-    ) -> Result<OpenedLog<S>, FailureCause> {
+    ) -> Result<OpenedLog, FailureCause> {
         match SegmentedLog::open(alloc, folder, tail.seal_size, tail.commit) {
             Ok(log) => Ok(OpenedLog {
                 log: Box::new(alloc, log)?,
             }),
-            Err((error, _)) => Err(refused(error)),
+            Err((error, folder)) => {
+                drop(folder);
+                Err(refused(error))
+            }
         }
     }
 

@@ -1,7 +1,5 @@
 //! A log that is open to be read.
 
-ghost use Rattle.std.specs.Prelude.{◌≡◌, ℕ, List, [], IsTrue};
-
 use crate::log_refusal::refused;
 use crate::places::check_log;
 use crate::segments::segment_numbers;
@@ -9,76 +7,57 @@ use program_base::failure::FailureCause;
 use segmented_log::{LogError, LogReader};
 use std::alloc::Global;
 use std::io::ErrorKind;
-use store_files::{DiskFolder, SystemFiles};
-use store_folder::ReadableFolder;
+use store_files::{DiskFolder, HostFiles};
 
 // How often an opening or a read is tried: a writer may change the log's segments meanwhile.
 const TRIES: usize = 1000;
 
-/// A log that is open to be read, as it was when it was opened first. Folder and log are in boxes: a function that owns
-/// them moves and drops one value each, and not all of its parts.
+// The reader of a log on disk, in a box: a function that owns it moves and drops one value, and not all of its parts.
+type DiskReader = Box<LogReader<DiskFolder<HostFiles>>>;
+
+/// A log that is open to be read, as it was when it was opened first.
 #[derive(Drop)]
-pub struct ReadLog<'a, S: SystemFiles + 'static> {
-    folder: Box<DiskFolder<&'a S>>,
-    log: Box<LogReader<DiskFolder<&'a S>>>,
+pub struct ReadLog {
+    folder: Box<DiskFolder<HostFiles>>,
+    log: DiskReader,
     end: u64,
 }
 
-// Why a call failed, unless a writer changed the log meanwhile. A segment may be gone since it was listed: the writer
+// Passes over an error where a writer changed the log meanwhile. A segment may be gone since it was listed: the writer
 // joined it with others, or removed it.
-fn unless_changed(error: LogError) -> Result<(), LogError> {
+fn unless_changed(error: LogError) -> Result<(), FailureCause> {
     match error {
         LogError::Changed => Ok(()),
         LogError::Failed(reason) if reason.kind() == ErrorKind::NotFound => Ok(()),
-        error => Err(error),
+        error => Err(refused(error)),
     }
 }
 
 // Opens the log of a folder.
-fn open<F: ReadableFolder>(
-    alloc: Global,
-    folder: F,
-) -> Result<(Box<F>, Box<LogReader<F>>), LogError> {
-    let folder = Box::new(alloc, folder)?;
+fn open(alloc: Global, folder: &DiskFolder<HostFiles>) -> Result<DiskReader, FailureCause> {
     for _ in 0..TRIES {
-        match LogReader::open(alloc, &*folder) {
-            Ok(log) => return Ok((folder, Box::new(alloc, log)?)),
+        match LogReader::open(alloc, folder) {
+            Ok(log) => return Ok(Box::new(alloc, log)?),
             Err(error) => unless_changed(error)?,
         }
     }
-    Err(LogError::Changed)
-}
-
-// Why a log can't be read. One that was changed at each try is being written.
-fn unread(error: LogError) -> FailureCause {
-    match error {
-        LogError::Changed => FailureCause::BusyLog,
-        error => refused(error),
-    }
+    Err(FailureCause::BusyLog)
 }
 
 /// Opens a log that is there, to read it. Nothing is changed, and a writer may go on. Of a log whose tail is damaged it
 /// has the records before the damage.
-pub fn open_to_read<'a, S: SystemFiles + 'static>(
-    rt: &HostRuntime,
-    system: &'a S,
-    path: &str,
-) -> Result<ReadLog<'a, S>, FailureCause>
-    requires unchanged { IsTrue S.honest → (d : List ℕ) → S.changes system.now d ≡ [] }
-{
+pub fn open_to_read(rt: &HostRuntime, path: &str) -> Result<ReadLog, FailureCause> {
     check_log(rt, path)?;
     let _plain = segment_numbers(rt, path)?;
-    let folder = DiskFolder::open_to_read(rt.alloc(), system, path)?;
-    match open(rt.alloc(), folder) {
-        Ok((folder, log)) => {
-            let end = log.end();
-            Ok(ReadLog { folder, log, end })
-        }
-        Err(error) => Err(unread(error)),
-    }
+    let alloc = rt.alloc();
+    let folder = DiskFolder::open_to_read(alloc, HostFiles::new(rt)?, path)?;
+    let folder = Box::new(alloc, folder)?;
+    let log = open(alloc, &folder)?;
+    let end = log.end();
+    Ok(ReadLog { folder, log, end })
 }
 
-impl<'a, S: SystemFiles + 'static> ReadLog<'a, S> {
+impl ReadLog {
     /// The number of the first record.
     pub fn first(&self) -> u64 {
         self.log.first()
@@ -106,10 +85,10 @@ impl<'a, S: SystemFiles + 'static> ReadLog<'a, S> {
                 Ok(Some(record)) => return Ok(record),
                 Ok(None) => return Err(self.no_record(number)),
                 Err(LogError::Damaged) => return Err(FailureCause::DamagedRecord(number)),
-                Err(error) => unless_changed(error).map_err(unread)?,
+                Err(error) => unless_changed(error)?,
             }
             if let Err(error) = self.log.refresh(&self.folder) {
-                unless_changed(error).map_err(unread)?;
+                unless_changed(error)?;
             }
         }
         Err(FailureCause::BusyLog)

@@ -10,17 +10,16 @@ use program_base::failure::{Failure, FailureCause, to_output, with_file};
 use program_base::input_files::framing_bytes;
 use program_base::progress::Progress;
 use std::io::Write;
-use store_files::SystemFiles;
 
 // How many bytes the records of a batch take before it is synced.
 const BATCH_BYTES: u64 = 1 << 20;
 
 /// A log to which the records of inputs are appended.
 #[derive(Drop)]
-pub struct Appending<'a, S: SystemFiles> {
+pub struct Appending<'a> {
     pub rt: &'a HostRuntime,
     pub path: &'a str,
-    pub log: OpenedLog<S>,
+    pub log: OpenedLog,
     pub policy: SyncPolicy,
     pub framing: Framing,
     pub expected: ExpectedCount,
@@ -34,7 +33,7 @@ pub struct Appending<'a, S: SystemFiles> {
     pub waiting: u64,
 }
 
-impl<'a, S: SystemFiles> Appending<'a, S> {
+impl<'a> Appending<'a> {
     // Prints the numbers from this one to before that one.
     fn print_numbers(&mut self, from: u64, to: u64) -> Result<(), FailureCause> {
         let Some(output) = &mut self.numbers else {

@@ -1,7 +1,5 @@
 //! `log stat`: prints counts and sizes of logs.
 
-ghost use Rattle.std.specs.Prelude.{◌≡◌, ℕ, List, [], IsTrue};
-
 use crate::FOLDER;
 use crate::places::{file_in, tail_bytes};
 use crate::read_log::{ReadLog, open_to_read};
@@ -14,7 +12,6 @@ use program_base::named_numbers::{NamedNumber, print_lines, print_object};
 use segmented_log::segment_file;
 use std::alloc::{AllocError, Global};
 use std::fs;
-use store_files::SystemFiles;
 
 const EXAMPLE: &str = "\
 Example:
@@ -64,11 +61,7 @@ fn bytes_of_segments(rt: &HostRuntime, path: &str, segments: &[u64]) -> Result<u
 
 impl LogNumbers {
     // Of the log at a path, which is open.
-    fn of<S: SystemFiles + 'static>(
-        rt: &HostRuntime,
-        path: &str,
-        log: &ReadLog<'_, S>,
-    ) -> Result<LogNumbers, FailureCause> {
+    fn of(rt: &HostRuntime, path: &str, log: &ReadLog) -> Result<LogNumbers, FailureCause> {
         let segments = segment_numbers(rt, path)?;
         Ok(LogNumbers {
             first: log.first(),
@@ -98,15 +91,8 @@ impl LogNumbers {
 }
 
 // Prints the numbers of a log, in lines or as JSON.
-fn print<S: SystemFiles + 'static>(
-    rt: &HostRuntime,
-    system: &S,
-    path: &str,
-    is_json: bool,
-) -> Result<(), FailureCause>
-    requires unchanged { IsTrue S.honest → (d : List ℕ) → S.changes system.now d ≡ [] }
-{
-    let read = open_to_read(rt, system, path)?;
+fn print(rt: &HostRuntime, path: &str, is_json: bool) -> Result<(), FailureCause> {
+    let read = open_to_read(rt, path)?;
     let numbers = LogNumbers::of(rt, path, &read)?.named();
     if is_json {
         print_object(rt, "folder", path, &numbers)?;
@@ -118,17 +104,11 @@ fn print<S: SystemFiles + 'static>(
 }
 
 /// Prints the numbers of each log. It goes on after one that can't be read, and fails at the end.
-pub fn run<S: SystemFiles + 'static>(
-    rt: &HostRuntime,
-    system: &S,
-    matches: &ArgMatches<'_>,
-) -> Result<(), Failure>
-    requires unchanged { IsTrue S.honest → (d : List ℕ) → S.changes system.now d ≡ [] }
-{
+pub fn run(rt: &HostRuntime, matches: &ArgMatches<'_>) -> Result<(), Failure> {
     let is_json = matches.get_flag("json");
     let mut findings = Findings::new();
     for path in matches.get_strs(FOLDER).unwrap_or(&[]) {
-        if let Err(cause) = print(rt, system, path, is_json) {
+        if let Err(cause) = print(rt, path, is_json) {
             findings.add_failed(rt, path, cause)?;
         }
     }

@@ -1,7 +1,5 @@
 //! `log verify`: reads logs whole, and reports what is broken.
 
-ghost use Rattle.std.specs.Prelude.{◌≡◌, ℕ, List, [], IsTrue};
-
 use crate::FOLDER;
 use crate::places::{check_log, file_in};
 use crate::read_log::open_to_read;
@@ -19,7 +17,7 @@ use segmented_log::{TAIL, segment_file};
 use std::alloc::{AllocError, Global};
 use std::fmt::Display;
 use std::{fmt, fs};
-use store_files::{SystemFiles, is_left_synced};
+use store_files::{HostFiles, is_left_synced};
 
 const EXAMPLE: &str = "\
 Checks each segment as a store, the batches of the tail by their sums, and that no number is missing between them. Bytes
@@ -163,16 +161,10 @@ fn fault_in(alloc: Global, bytes: &[u8], is_synced: bool) -> Result<Option<TailF
 }
 
 // Whether the tail of a log is whole to its end. What is wrong is reported.
-fn check_tail<S: SystemFiles + 'static>(
-    rt: &HostRuntime,
-    system: &S,
-    folder: &str,
-) -> Result<bool, FailureCause>
-    requires unchanged { IsTrue S.honest → (d : List ℕ) → S.changes system.now d ≡ [] }
-{
+fn check_tail(rt: &HostRuntime, folder: &str) -> Result<bool, FailureCause> {
     let path = file_in(rt.alloc(), folder, TAIL)?;
     let bytes = fs::read(rt, path.as_str())?;
-    let is_synced = is_left_synced(system, rt.alloc(), folder, TAIL).unwrap_or(false);
+    let is_synced = is_left_synced(&HostFiles::new(rt)?, rt.alloc(), folder, TAIL).unwrap_or(false);
     let fault = fault_in(rt.alloc(), &bytes, is_synced)?;
     drop(bytes);
     let Some(fault) = fault else {
@@ -183,16 +175,13 @@ fn check_tail<S: SystemFiles + 'static>(
 }
 
 // That the numbers of a log's parts are in line is shown by opening it.
-fn print_whole<S: SystemFiles + 'static>(
+fn print_whole(
     rt: &HostRuntime,
-    system: &S,
     path: &str,
     segments: usize,
     is_quiet: bool,
-) -> Result<(), FailureCause>
-    requires unchanged { IsTrue S.honest → (d : List ℕ) → S.changes system.now d ≡ [] }
-{
-    let read = open_to_read(rt, system, path)?;
+) -> Result<(), FailureCause> {
+    let read = open_to_read(rt, path)?;
     if is_quiet {
         return Ok(());
     }
@@ -205,37 +194,24 @@ fn print_whole<S: SystemFiles + 'static>(
 }
 
 // Prints what is found in a log, and returns whether it is sound.
-fn verify<S: SystemFiles + 'static>(
-    rt: &HostRuntime,
-    system: &S,
-    path: &str,
-    is_quiet: bool,
-) -> Result<bool, FailureCause>
-    requires unchanged { IsTrue S.honest → (d : List ℕ) → S.changes system.now d ≡ [] }
-{
+fn verify(rt: &HostRuntime, path: &str, is_quiet: bool) -> Result<bool, FailureCause> {
     check_log(rt, path)?;
     let segments = segment_numbers(rt, path)?;
     let are_sound = check_segments(rt, path, &segments, is_quiet)?;
-    let is_whole = check_tail(rt, system, path)?;
+    let is_whole = check_tail(rt, path)?;
     if !(are_sound && is_whole) {
         return Ok(false);
     }
-    print_whole(rt, system, path, segments.len(), is_quiet)?;
+    print_whole(rt, path, segments.len(), is_quiet)?;
     Ok(true)
 }
 
 /// Prints what is found in each log. It goes on after one that can't be read, and fails at the end.
-pub fn run<S: SystemFiles + 'static>(
-    rt: &HostRuntime,
-    system: &S,
-    matches: &ArgMatches<'_>,
-) -> Result<(), Failure>
-    requires unchanged { IsTrue S.honest → (d : List ℕ) → S.changes system.now d ≡ [] }
-{
+pub fn run(rt: &HostRuntime, matches: &ArgMatches<'_>) -> Result<(), Failure> {
     let is_quiet = matches.get_flag("quiet");
     let mut findings = Findings::new();
     for path in matches.get_strs(FOLDER).unwrap_or(&[]) {
-        match verify(rt, system, path, is_quiet) {
+        match verify(rt, path, is_quiet) {
             Ok(true) => (),
             Ok(false) => findings.add(Status::Broken),
             Err(cause) => findings.add_failed(rt, path, cause)?,
