@@ -1,4 +1,4 @@
-"""A read that fails is reported with the file and what the system said, by each command that reads."""
+"""A read of an open store or log that fails is reported with its name and what the system said."""
 
 import os
 import subprocess
@@ -29,10 +29,11 @@ class FailedReads(OldStoreCase):
 
     def test_each_command_on_a_store_names_the_file_and_the_reason(self):
         self.pack("a.store", self.WIDE)
-        for words in (["get", "a.store", "7"], ["cat", "a.store"], ["verify", "a.store"], ["inspect", "a.store"]):
-            for when in (1, 2, 3):
+        for words in (["get", "a.store", "7"], ["cat", "a.store"], ["inspect", "a.store"]):
+            for when in (2, 3, 4):
                 self.assert_reported("a.store", "a.store", when, *words)
-        self.assert_reported("a.store", "a.store", 3, "export", "a.store", "out", "--tantivy")
+        self.assert_reported("a.store", "a.store", 4, "verify", "a.store")
+        self.assert_reported("a.store", "a.store", 4, "export", "--tantivy", "out", "a.store")
 
     def test_each_command_on_a_log_names_the_folder_and_the_reason(self):
         self.program.gives("log", "append", "ev", input=self.WIDE)
