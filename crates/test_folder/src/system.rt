@@ -1,5 +1,8 @@
 //! A system in memory: each of its calls, and a store that is published in a folder of it.
 
+ghost use Rattle.std.specs.Prelude.{◌≡◌, ℕ, List, []};
+ghost use Rattle.system_model.specs.System.{changes_in};
+
 use std::alloc::Global;
 use std::fs::TryLockError;
 use std::io;
@@ -111,6 +114,25 @@ fn is_changed_by_its_writer(alloc: Global) -> Result<bool, Fail> {
 #[test]
 fn a_folder_in_memory_is_changed_by_its_writer_alone(rt: HostRuntime) -> Result<(), Fail> {
     assert!(rt; is_changed_by_its_writer(rt.alloc())?);
+    Ok(())
+}
+
+// Whether two folders are open over one system that is lent, and neither they nor the system itself change it.
+fn is_only_read(alloc: Global, system: &MemSystem) -> Result<bool, Fail>
+    requires { (d : List ℕ) → changes_in system.now d ≡ [] }
+{
+    let first = DiskFolder::open_to_read(alloc, system, "f")?;
+    let mut first = Box::new(alloc, first)?;
+    let second = Box::new(alloc, DiskFolder::open_to_read(alloc, system, "f")?)?;
+    let mut lent = system;
+    let is_refused = first.create("a").is_err() && lent.create("f/a").is_err();
+    Ok(is_refused && first.names(alloc)?.is_empty() && second.read(alloc, "a")?.is_none())
+}
+
+#[test]
+fn a_system_that_is_lent_is_only_read(rt: HostRuntime) -> Result<(), Fail> {
+    let system = MemSystem::new(rt.alloc(), "f")?;
+    assert!(rt; is_only_read(rt.alloc(), &system)?);
     Ok(())
 }
 
