@@ -7,6 +7,7 @@ import sys
 from pathlib import Path
 from typing import Callable, Dict, List, Optional, Set
 
+from instructions import VALGRIND
 from plan import C_SIDES, PYTHON_SIDES, RATTLE_SIDES, RUST_SIDES, Row
 
 HERE = Path(__file__).resolve().parent
@@ -115,4 +116,7 @@ def with_programs(rows: List[Row]) -> List[Row]:
     lacks = missing({row.side for row in rows})
     for side, what in sorted(lacks.items()):
         print(f"left out: {side}, which lacks {what}", file=sys.stderr)
+    if any(row.group == "instructions" for row in rows) and not shutil.which(VALGRIND):
+        print(f"left out: instructions, which need {VALGRIND}", file=sys.stderr)
+        rows = [row for row in rows if row.group != "instructions"]
     return [row for row in rows if row.side not in lacks]

@@ -1,4 +1,4 @@
-"""Plots of figures as marks on a line, each with the span between its quartiles."""
+"""Plots of figures as marks on a line, each with the interval of its median."""
 
 from dataclasses import dataclass
 from typing import Callable, List, Optional

@@ -1,8 +1,9 @@
-"""What a file of measurements has: medians of the rounds of each row, and how far the rounds lie apart."""
+"""What a file of measurements has: medians of the rounds of each row, and how well the rounds tell them."""
 
 import json
+from math import comb
 from pathlib import Path
-from statistics import median, quantiles
+from statistics import median
 from typing import Dict, Iterable, List, NamedTuple, Optional, Tuple
 
 #: how sides are called in plots and tables
@@ -14,6 +15,7 @@ LABELS = {
     "disk": "disk",
     "log": "log",
     "lmdb": "LMDB",
+    "lmdb_cursor": "LMDB, by a cursor",
     "sqlite": "SQLite",
     "leveldb": "LevelDB",
     "rocksdb": "RocksDB",
@@ -34,8 +36,11 @@ LABELS = {
     "cat": "cat",
 }
 
-#: a row is even if its quartiles lie at most this share of the median apart
+#: a row is even if the ends of its interval lie at most this share of the median apart
 EVEN = 0.15
+
+#: with which chance at most the median lies outside of its interval, where there are enough rounds
+OUTSIDE = 0.05
 
 
 def label_of(side: str) -> str:
@@ -43,7 +48,7 @@ def label_of(side: str) -> str:
 
 
 class Spread(NamedTuple):
-    """The median of some values, and their quartiles."""
+    """The median of some values, and between which two of them it lies."""
 
     low: float
     middle: float
@@ -51,7 +56,7 @@ class Spread(NamedTuple):
 
     @property
     def share(self) -> float:
-        """How far apart the quartiles lie, as a share of the median."""
+        """How far apart the ends of the interval lie, as a share of the median."""
         return (self.high - self.low) / self.middle if self.middle else 0.0
 
     @property
@@ -59,22 +64,32 @@ class Spread(NamedTuple):
         return self.share <= EVEN
 
 
+def outer_values(count: int) -> int:
+    """How many of this count of sorted values lie outside of the interval of their median, at each of its ends.
+
+    Of values that come one after the other from any one distribution, the median of that lies below the first value of
+    the interval with a chance of at most half of OUTSIDE: that of as few heads where a coin is thrown for each value.
+    With five values or fewer the interval is all of them, and the chance is larger.
+    """
+    chance = 0.0
+    for heads in range(count):
+        chance += comb(count, heads) / 2**count
+        if 2 * chance > OUTSIDE:
+            return max(0, heads - 1)
+    return 0
+
+
 def spread_of(values: List[float]) -> Spread:
-    if len(values) < 2:
-        return Spread(values[0], values[0], values[0])
-    low, middle, high = quantiles(values, n=4, method="inclusive")
-    return Spread(low, middle, high)
+    """The median, and the interval that its order statistics give."""
+    sorted_values, outer = sorted(values), outer_values(len(values))
+    return Spread(sorted_values[outer], median(sorted_values), sorted_values[-1 - outer])
 
 
 def each_of(taken: Dict[str, int]) -> float:
-    """Nanoseconds for each document, or each open. A write ends when the system was asked to keep it, where that is
-    timed by itself."""
-    return (taken["ns"] + taken.get("sync_ns", 0)) / max(1, taken["count"])
-
-
-def is_even(rounds: List[Dict[str, int]]) -> bool:
-    """Whether the quartiles of these rounds lie close together."""
-    return spread_of([each_of(taken) for taken in rounds]).is_even
+    """Nanoseconds for each document, or each open, or instructions, where these were counted. A write ends when the
+    system was asked to keep it, where that is timed by itself."""
+    cost = taken["instructions"] if "instructions" in taken else taken["ns"] + taken.get("sync_ns", 0)
+    return cost / max(1, taken["count"])
 
 
 class Figures:
@@ -99,12 +114,12 @@ class Figures:
         return median(found) if found else None
 
     def spread(self, **wanted: object) -> Optional[Spread]:
-        """Nanoseconds for each document, or each open: the median and the quartiles of the rounds."""
+        """Nanoseconds for each document, or each open: the median of the rounds and its interval."""
         rounds = self.rounds(**wanted)
         return spread_of([each_of(taken) for taken in rounds]) if rounds else None
 
     def share_of(self, row: Dict[str, object]) -> float:
-        """How far apart the quartiles of a row's rounds lie, as a share of the median."""
+        """How far apart the ends of the interval of a row's median lie, as a share of it."""
         return spread_of([each_of(taken) for taken in row["rounds"]]).share
 
     def each(self, **wanted: object) -> Optional[float]:
@@ -118,7 +133,7 @@ class Figures:
         return [(each_of(own), each_of(other)) for own, other in rounds]
 
     def ratios(self, mine: Dict[str, object], theirs: Dict[str, object]) -> Optional[Spread]:
-        """The rounds' ratios: their median and quartiles."""
+        """The rounds' ratios: their median and its interval."""
         found = [own / other for own, other in self.pairs(mine, theirs)]
         return spread_of(found) if found else None
 

@@ -73,7 +73,7 @@ def spread_line(figures: Figures) -> str:
     """The spread, the machine and the date."""
     machine = figures.whole["machine"]
     shares = plot.shares_of(figures)
-    return (f"Medians of {figures.whole['rounds']} rounds; in the median row half of them span "
+    return (f"Medians of {figures.whole['rounds']} rounds; in the median row their interval of 95 % spans "
             f"{shares[len(shares) // 2]:.0%}. {machine['processor'].replace('(R)', '')}, {machine['cores']} cores, "
             f"{dates(figures)}.")
 

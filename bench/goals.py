@@ -8,6 +8,7 @@ from plan import DISK, FULL, LOG_PEERS, MEMORY, PROCESS
 from texts import factor_text, in_table, number_text
 
 GETS = {"uniform": "uniform", "hot": "hot", "zipf": "zipf", "sequence": "in sequence"}
+BY_CURSOR = {"sequence": "in sequence"}
 ITERATE = {"iterate": "iterate"}
 
 WALK = "each get decodes the index from its top"
@@ -20,6 +21,19 @@ UNKNOWN = "the cause was not looked for yet"
 SUM = "each batch has a sum, which LMDB has not"
 
 Row = Dict[str, object]
+
+
+#: by how much a figure may exceed its goal: a machine that others share shows no smaller difference
+MARGIN = 0.05
+
+
+def verdict(spread: Optional[Spread], most: float) -> str:
+    """Whether the figure is at most so large and the margin, as far as its interval tells."""
+    if spread is None:
+        return "not measured"
+    if spread.high <= most * (1 + MARGIN):
+        return "met"
+    return "missed" if spread.low > most * (1 + MARGIN) else "open"
 
 
 @dataclass(frozen=True)
@@ -36,9 +50,9 @@ class Goal:
     def line(self, figures: Figures) -> str:
         """The goal's row of the table."""
         spread = self.figure(figures)
-        verdict = "not measured" if spread is None else "met" if spread.middle <= self.most else "missed"
-        reason = self.reason if verdict == "missed" else ""
-        return f"| {self.name} | {self.most:g}{self.unit} | {in_table(spread, self.text)} | {verdict} | {reason} |"
+        told = verdict(spread, self.most)
+        reason = self.reason if told == "missed" else ""
+        return f"| {self.name} | {self.most:g}{self.unit} | {in_table(spread, self.text)} | {told} | {reason} |"
 
 
 def _ratio(ours: Row, theirs: Row) -> Callable[[Figures], Optional[Spread]]:
@@ -110,6 +124,7 @@ IN_C = dict(group="python", side="zevk", workload="uniform")
 
 GOALS = [
     *_reads("unopened", "lmdb", "`zevk_get` / LMDB, get", 0.6, GETS, WALK),
+    *_reads("unopened", "lmdb_cursor", "`zevk_get` / LMDB by a cursor, get", 0.6, BY_CURSOR, WALK),
     *_reads("unopened", "cdb", "`zevk_get` / tinycdb, get", 1.0, GETS, WALK),
     *_beside_view(),
     *_reads("unopened", "lmdb", "`zevk_get_run` / LMDB", 0.6, ITERATE, BYTES),

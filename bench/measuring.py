@@ -1,5 +1,6 @@
 """Taking the rounds of all rows, and again those of works whose rounds lay far apart."""
 
+import random
 import sys
 import time
 from dataclasses import dataclass
@@ -62,11 +63,11 @@ class Measurements:
         return found
 
     def unevenness(self, rows: List[Row]) -> float:
-        """How far apart the quartiles of the most uneven of these rows lie, as a share of its median."""
+        """How wide the interval of the most uneven of these rows is, as a share of its median."""
         return max(spread_of([each_of(taken) for taken in self.rounds[row]]).share for row in rows)
 
     def uneven(self) -> List[List[Row]]:
-        """The works that have a row whose quartiles lie far apart, the most uneven first."""
+        """The works that have a row whose interval is wide, the most uneven first."""
         works = [(self.unevenness(rows), rows) for rows in self.works().values()]
         return [rows for share, rows in sorted(works, key=lambda work: -work[0]) if share > EVEN]
 
@@ -79,33 +80,46 @@ def make_stores(programs: sides.Programs, rows: List[Row], measured: Measurement
     """The stores that rows read, each by the side that writes it."""
     for row in rows:
         made = sides.make(programs, row)
-        measured.agree(("write", row.documents, row.length, 1, 1), row.side, made)
+        measured.agree(("write", row.documents, row.length, 1, 1, row.are_many), row.side, made)
 
 
 def say(text: str) -> None:
     print(f"{time.strftime('%H:%M:%S')} {text}", file=sys.stderr)
 
 
+def shuffled(rows: List[Row], turn: int) -> List[Row]:
+    """The rows in an order of this turn's own: the works shuffled, and the sides within each, so that no side comes
+    after the same one in every round."""
+    works: Dict[tuple, List[Row]] = {}
+    for row in rows:
+        works.setdefault(row.compared(), []).append(row)
+    order = random.Random(turn)
+    mixed = order.sample(list(works.values()), len(works))
+    return [row for sides_of in mixed for row in order.sample(sides_of, len(sides_of))]
+
+
 def take_all(programs: sides.Programs, measured: Measurements, rows: List[Row], pace: Pace) -> int:
     """All sides in turn, again and again, until there are enough rounds or the time is over. Returns the rounds."""
+    measured.rounds = {row: [] for row in rows}
     for turn in range(pace.rounds):
         if pace.is_over() and turn >= LEAST_ROUNDS:
             return turn
-        for row in rows:
+        for row in shuffled(rows, turn):
             if turn == 0 or row.group not in ONCE:
-                measured.rounds.setdefault(row, []).append(measured.take(programs, row))
+                measured.rounds[row].append(measured.take(programs, row))
         say(f"round {turn + 1} of {pace.rounds}, {len(rows)} rows")
     return pace.rounds
 
 
 def take_again(programs: sides.Programs, measured: Measurements, rows: List[Row], rounds: int) -> None:
-    """New rounds of the rows of one work, in place of those that it had."""
+    """More rounds of the rows of one work, after those that it had: all of these, or none if it is interrupted."""
     taken: Dict[Row, Rounds] = {row: [] for row in rows}
-    for _ in range(rounds):
-        for row in rows:
+    first = len(measured.rounds[rows[0]])
+    for turn in range(first, first + rounds):
+        for row in shuffled(rows, turn):
             taken[row].append(measured.take(programs, row))
-    measured.rounds.update(taken)
     for row in rows:
+        measured.rounds[row] += taken[row]
         measured.again[row] = measured.again.get(row, 0) + 1
 
 

@@ -78,6 +78,8 @@ PARTS: Dict[str, Made] = {
     "slower": paragraph(comparisons.slower),
     "reading": table(tables.read),
     "ratios": table(tables.ratios),
+    "lengths": table(tables.lengths),
+    "instructions": table(tables.instructions),
     "opening": table(tables.opening),
     "other work": table(tables.other),
     "writing": table(tables.writing),

@@ -1,6 +1,6 @@
 """What is measured: every workload of every side, by group."""
 
-from dataclasses import asdict, dataclass
+from dataclasses import asdict, dataclass, replace
 from typing import Dict, List
 
 import shell_sides
@@ -13,7 +13,13 @@ USUAL_SIDES = PEERS + ["plain"] + OWN_C_SIDES
 #: more sides in C: ours by the path of a file, with all checks and without, and files that are read by ranges
 PATH_SIDES = ["path", "unchecked"]
 RANGED_SIDES = ["ranged", "plain_ranged"]
-C_SIDES = USUAL_SIDES + PATH_SIDES + RANGED_SIDES
+
+#: LMDB, whose gets move a cursor
+CURSOR_SIDES = ["lmdb_cursor"]
+C_SIDES = USUAL_SIDES + PATH_SIDES + RANGED_SIDES + CURSOR_SIDES
+
+#: sides whose instructions are counted, and that read documents of many lengths
+COUNTED_SIDES = ["lmdb", "cdb", "plain"] + OWN_C_SIDES
 
 #: sides in C that write in a way of their own
 WRITERS = [side for side in USUAL_SIDES if side != "unopened"]
@@ -26,7 +32,7 @@ APPENDERS = ["path", "lmdb", "sqlite", "leveldb", "rocksdb"]
 
 #: who wrote the store that a side reads, where that is not the side itself
 WRITER_OF = {"unopened": "zevk", "path": "zevk", "unchecked": "zevk", "ranged": "zevk", "plain_ranged": "plain",
-             "rust": "zevk", "python": "zevk"}
+             "rust": "zevk", "python": "zevk", "lmdb_cursor": "lmdb"}
 
 #: sides in Rattle, all ours: bytes in memory, a reader with a cache over them, the same over a file on disk, and a log
 RATTLE_SIDES = ["view", "reader", "disk", "log"]
@@ -63,11 +69,11 @@ SAME_WORK = {"keep_uniform": "uniform", "keep_sequence": "sequence", "ranges": "
 LOG_MAKES = {"log_append", "log_synced_once"}
 LOG_READS = {"log_open", "log_uniform"}
 
-GROUPS = ["size", "read", "memory", "write", "append", "open", "cold", "threads", "ranges", "stack", "python",
-          "program", "log", "long_log", "growth"]
+GROUPS = ["size", "read", "lengths", "instructions", "memory", "write", "append", "open", "cold", "threads", "ranges",
+          "stack", "python", "program", "log", "long_log", "growth"]
 
 #: what does not change from round to round, or takes minutes
-ONCE = ["size", "long_log"]
+ONCE = ["size", "instructions", "long_log"]
 
 #: bytes of a block, where nothing else is said; at 0 each document has a block of its own
 BLOCK_SIZE = 16384
@@ -93,6 +99,7 @@ class Row:
     block_size: int = BLOCK_SIZE
     questions: int = 1
     threads: int = 1
+    are_many: bool = False  # lengths, of which `length` is the mean
 
     @property
     def hot(self) -> int:
@@ -101,11 +108,11 @@ class Row:
     def work(self) -> tuple:
         """What has to give the same check on every side."""
         workload = SAME_WORK.get(self.workload, self.workload)
-        return (workload, self.documents, self.length, self.questions, self.threads)
+        return (workload, self.documents, self.length, self.questions, self.threads, self.are_many)
 
     def compared(self) -> tuple:
         """What all rows have in common that are compared with each other."""
-        return (self.group, self.workload, self.documents, self.length, self.threads)
+        return (self.group, self.workload, self.documents, self.length, self.threads, self.are_many)
 
     def told(self) -> Dict[str, object]:
         return asdict(self)
@@ -117,6 +124,7 @@ class Sizes:
 
     documents: Dict[int, int]  # how many, by their length
     questions: int             # gets of each workload
+    counted: int               # gets of each workload whose instructions are counted
     opens: int
     cold: int                  # gets from a file that is not in memory
     threads: List[int]
@@ -139,6 +147,7 @@ SMALL_BATCH, LARGE_BATCH = 100, 10_000
 FULL = Sizes(
     documents={8: 1_000_000, 100: 1_000_000, 1000: 200_000, 20000: 10_000},
     questions=100_000,
+    counted=20_000,
     opens=20,
     cold=1000,
     threads=[1, 8],
@@ -157,6 +166,7 @@ FULL = Sizes(
 QUICK = Sizes(
     documents={8: 20_000, 100: 20_000, 1000: 4000, 20000: 400},
     questions=5000,
+    counted=500,
     opens=3,
     cold=50,
     threads=[1, 8],
@@ -195,7 +205,25 @@ def read_rows(sizes: Sizes) -> List[Row]:
     """Files in the page cache, of every length; of one also by path, and by the disk's reader, which writes its file
     each time."""
     lengths = list(sizes.documents)
-    return _reads("read", DISK, USUAL_SIDES, lengths, sizes) + _reads("read", DISK, ["path", "disk"], [100], sizes)
+    rows = _reads("read", DISK, USUAL_SIDES, lengths, sizes) + _reads("read", DISK, ["path", "disk"], [100], sizes)
+    in_sequence = _reads("read", DISK, CURSOR_SIDES, lengths, sizes)
+    return rows + [row for row in in_sequence if row.workload == "sequence"]
+
+
+def length_rows(sizes: Sizes) -> List[Row]:
+    """Documents of many lengths, and as many of one."""
+    rows = _reads("lengths", DISK, COUNTED_SIDES, [100], sizes)
+    return rows + [replace(row, are_many=True) for row in rows]
+
+
+def instruction_rows(sizes: Sizes) -> List[Row]:
+    """The instructions of gets, and of opens."""
+    works = [(order, sizes.counted) for order in ORDERS] + [("open", sizes.opens)]
+    return [
+        Row("instructions", workload, DISK, side, sizes.documents[100], 100, questions=questions)
+        for workload, questions in works
+        for side in COUNTED_SIDES
+    ]
 
 
 def memory_rows(sizes: Sizes, outside: List[str]) -> List[Row]:
@@ -336,6 +364,8 @@ def rows_of(groups: List[str], sizes: Sizes, outside: List[str]) -> List[Row]:
     made = {
         "size": lambda: size_rows(sizes),
         "read": lambda: read_rows(sizes),
+        "lengths": lambda: length_rows(sizes),
+        "instructions": lambda: instruction_rows(sizes),
         "memory": lambda: memory_rows(sizes, outside),
         "write": lambda: write_rows(sizes, outside),
         "append": lambda: append_rows(sizes),

@@ -35,7 +35,7 @@ RATIOS = [
 
 
 def shares_of(figures: Figures) -> List[float]:
-    """How far the quartiles of each row's rounds lie apart, as shares of the median: the least first."""
+    """How wide the interval of each row's median is, as shares of the median: the least first."""
     return sorted(figures.share_of(row) for row in figures.rows if len(row["rounds"]) > 1)
 
 
@@ -44,8 +44,8 @@ def spread_sentence(figures: Figures) -> str:
     shares = shares_of(figures)
     wide = sum(share > EVEN for share in shares)
     again = sum(bool(row["again"]) for row in figures.rows)
-    return (f"In the median row the quartiles of the rounds lie {shares[len(shares) // 2]:.0%} of the median apart; in "
-            f"{wide} of {len(shares)} rows more than {EVEN:.0%}; {again} rows were measured again.")
+    return (f"In the median row the interval is {shares[len(shares) // 2]:.0%} of the median wide; in {wide} of "
+            f"{len(shares)} rows more than {EVEN:.0%}; {again} rows were measured again.")
 
 
 def _ratio_plots(figures: Figures) -> Dict[str, Drawing]:
@@ -155,7 +155,7 @@ def rough_sentence(figures: Figures, group: str) -> str:
 def page_of(figures: Figures, plots: List[Plot]) -> str:
     """The page that shows the plots, with what they were measured on."""
     lines = ["# Plots", "", "`bench/plot.py` draws them and writes this page. Ratios are our time by theirs: above 1",
-             "ours is slower. *About* marks a figure whose quartiles lie more than 15 % of the median apart.", ""]
+             "ours is slower. *About* marks a figure that the rounds don't tell within 15 %.", ""]
     for name, drawing in plots:
         lines += [f"## {drawing.title}", "", *wrapped(drawing.says), "", f"![{drawing.title}]({name}.svg)", ""]
     lines += ["## Measured on", "", *wrapped(f"{machine_sentence(figures)} {moment_sentence(figures)}"), ""]

@@ -26,8 +26,8 @@ def arguments() -> argparse.Namespace:
     parser = argparse.ArgumentParser(description=__doc__.splitlines()[0])
     parser.add_argument("--rounds", type=int, default=9, help="how often each workload of each side is done")
     parser.add_argument("--again", type=int, default=2,
-                        help="how often a work is measured again while the quartiles of one of its rows lie more than "
-                             "15 %% of the median apart")
+                        help="how often a work has as many rounds more while the median of one of its rows is not told "
+                             "within 15 %%")
     parser.add_argument("--minutes", type=float, help="no round begins later, and no work is measured again")
     parser.add_argument("--quick", action="store_true", help="small sizes, to see that all is right: no figures")
     parser.add_argument("--documents", action="store_true", help="then write the plots and the pages of the documents")

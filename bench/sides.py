@@ -10,6 +10,7 @@ from dataclasses import dataclass, field
 from pathlib import Path
 from typing import Dict, List, NamedTuple, Optional
 
+import instructions
 import shell_sides
 from plan import C_SIDES, LARGE_BATCH, LOG_MAKES, LOG_READS, MEMORY, PYTHON_SIDES, RUST_SIDES, WRITER_OF, Row
 
@@ -80,21 +81,24 @@ def store_path(programs: Programs, row: Row) -> Path:
     """The store that a row reads."""
     writer = WRITER_OF.get(row.side, row.side)
     kind = "log-" if row.workload in LOG_READS else ""
-    name = f"{writer}-{kind}{row.documents}-{row.length}-{row.block_size}"
+    many = "-many" if row.are_many else ""
+    name = f"{writer}-{kind}{row.documents}-{row.length}-{row.block_size}{many}"
     return programs.folder(row.place) / name
+
+
+def _command(programs: Programs, row: Row, side: str, workload: str, path: Path) -> List[str]:
+    """The words for a workload of a side in C or in Python, but for the questions."""
+    words = [side, workload, str(path), f"n={row.documents}", f"l={row.length}", f"threads={row.threads}"]
+    if side in PYTHON_SIDES:
+        return [str(programs.python), str(FROM_PYTHON), *words]
+    return [str(programs.peers), *words, f"bs={row.block_size}", f"hot={row.hot}", f"many={row.are_many:d}"]
 
 
 def _told(programs: Programs, row: Row, side: str, workload: str, path: Path) -> Dict[str, object]:
     """What a side in C or in Python printed of a workload."""
     questions = row.questions if workload == row.workload else LARGE_BATCH
-    words = [side, workload, str(path), f"n={row.documents}", f"l={row.length}", f"q={questions}",
-             f"threads={row.threads}"]
-    if side in PYTHON_SIDES:
-        command = [str(programs.python), str(FROM_PYTHON)]
-    else:
-        command = [str(programs.peers)]
-        words += [f"bs={row.block_size}", f"hot={row.hot}"]
-    return json.loads(_run(command + words, path.parent).stdout)
+    command = _command(programs, row, side, workload, path)
+    return json.loads(_run([*command, f"q={questions}"], path.parent).stdout)
 
 
 def make(programs: Programs, row: Row) -> str:
@@ -118,6 +122,16 @@ def _run_file_side(programs: Programs, row: Row) -> Dict[str, object]:
     told = _told(programs, row, row.side, row.workload, written)
     remove(written)
     return told
+
+
+def _count(programs: Programs, row: Row) -> Dict[str, object]:
+    """The instructions of a side in C."""
+    path = store_path(programs, row)
+    command = _command(programs, row, row.side, row.workload, path)
+    try:
+        return instructions.of_questions(command, path.parent, row.questions)
+    except (OSError, ValueError, subprocess.CalledProcessError) as why:
+        raise Failed(f"{row.side} {row.workload}: {why}") from why
 
 
 def _run_rust(programs: Programs, row: Row) -> Dict[str, object]:
@@ -161,6 +175,8 @@ def _run_shell_side(programs: Programs, row: Row) -> Dict[str, object]:
 
 def run(programs: Programs, row: Row) -> Dict[str, object]:
     """What one round of a row took and did."""
+    if row.group == "instructions":
+        return _count(programs, row)
     if row.side in C_SIDES + PYTHON_SIDES:
         return _run_file_side(programs, row)
     if row.side in RUST_SIDES:

@@ -1,7 +1,8 @@
 #!/usr/bin/env python3
-"""Prints what a file of measurements has as tables in Markdown: nanoseconds for each document or open.
+"""Prints what a file of measurements has as tables in Markdown: nanoseconds for each document or open, or
+instructions where these were counted.
 
-A figure is the median of the rounds; where the quartiles lie more than 15 % of it apart they follow in brackets.
+A figure is the median of the rounds; where its interval is more than 15 % of it wide it follows in brackets.
 """
 
 import argparse

@@ -1,5 +1,5 @@
-"""The tables of docs/PERFORMANCE.md. A figure is the median of the rounds; where the quartiles lie more than 15 % of it
-apart they follow in brackets."""
+"""The tables of docs/PERFORMANCE.md. A figure is the median of the rounds; where its interval is more than 15 % of it
+wide it follows in brackets."""
 
 from typing import Callable, Collection, Dict, List, Optional
 
@@ -35,7 +35,7 @@ def cells(figures: Figures, sides: List[str], text: Text, wanted: Wanted) -> Lis
 
 def read(figures: Figures) -> Lines:
     in_process = ["view", "reader"]
-    sides = ["unopened", "zevk", "path", *in_process, "disk", *PEER_COLUMNS]
+    sides = ["unopened", "zevk", "path", *in_process, "disk", "lmdb", "lmdb_cursor", *PEER_COLUMNS[1:]]
     lines = head("reading", sides)
     for workload, name in READ_NAMES.items():
         wanted = dict(workload=workload, length=100)
@@ -47,7 +47,7 @@ def read(figures: Figures) -> Lines:
 
 def ratios(figures: Figures) -> Lines:
     """Ours by theirs, as the median of the rounds' ratios."""
-    pairs = [(ours, side) for side in ("lmdb", "cdb") for ours in ("unopened", "zevk")]
+    pairs = [(ours, side) for side in ("lmdb", "lmdb_cursor", "cdb") for ours in ("unopened", "zevk")]
     lines = [row_of("reading", [f"{HEADS[ours]} / {label_of(side)}" for ours, side in pairs]),
              "|---" * (len(pairs) + 1) + "|"]
     for workload, name in READ_NAMES.items():
@@ -55,6 +55,28 @@ def ratios(figures: Figures) -> Lines:
         spreads = [figures.ratios(dict(side=ours, **common), dict(side=side, **common)) for ours, side in pairs]
         lines.append(row_of(name, [in_table(spread, factor_text) for spread in spreads]))
     return lines
+
+
+def lengths(figures: Figures) -> Lines:
+    """Documents of one length, and of many with the same mean."""
+    sides = ["unopened", "zevk", "lmdb", "cdb", "plain"]
+    lines = head("reading", sides)
+    for workload, name in READ_NAMES.items():
+        for are_many, which in ((False, "one length"), (True, "many")):
+            wanted = dict(group="lengths", workload=workload, are_many=are_many)
+            lines.append(row_of(f"{name}, {which}", cells(figures, sides, number_text, wanted)))
+    return lines if figures.find(group="lengths") else []
+
+
+def instructions(figures: Figures) -> Lines:
+    """How many a get takes, or an open."""
+    sides = ["unopened", "zevk", "lmdb", "cdb", "plain"]
+    lines = head("instructions", sides)
+    for workload, name in {**READ_NAMES, "open": "open, and get document 0"}.items():
+        wanted = dict(group="instructions", workload=workload)
+        if figures.find(**wanted):
+            lines.append(row_of(name, cells(figures, sides, number_text, wanted)))
+    return lines if figures.find(group="instructions") else []
 
 
 def beside_tantivy(figures: Figures) -> Lines:

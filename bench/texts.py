@@ -1,4 +1,4 @@
-"""Figures as texts. One whose quartiles lie more than 15 % of the median apart says so: a table has the quartiles in
+"""Figures as texts. One that the rounds don't tell within 15 % says so: a table has the interval of the median in
 brackets, and a sentence has `about` before the figure."""
 
 from typing import Callable, List, Optional
@@ -45,7 +45,7 @@ def factor_text(value: float) -> str:
 
 
 def in_table(spread: Optional[Spread], text: Text) -> str:
-    """The median, with the quartiles where they lie far apart."""
+    """The median, with its interval where that is wide."""
     if spread is None:
         return ""
     if spread.is_even:
@@ -54,7 +54,7 @@ def in_table(spread: Optional[Spread], text: Text) -> str:
 
 
 def in_sentence(spread: Spread, text: Text) -> str:
-    """The median, with `about` before it where the quartiles lie far apart."""
+    """The median, with `about` before it where its interval is wide."""
     return ("" if spread.is_even else "about ") + text(spread.middle)
 
 

@@ -8,7 +8,8 @@
 static const uint64_t POOL_SEED = 88172645463325252u;
 static const uint64_t NUMBERS_SEED = 1234567890123456789u;
 static const uint64_t THREAD_STEP = 1000000007u;
-enum { POOL_LENGTH = 1 << 20, POOL_STEP = 4099, WHOLE_EVERY = 16 };
+static const uint64_t LENGTH_STEP = 0x9e3779b97f4a7c15u;
+enum { POOL_LENGTH = 1 << 20, POOL_STEP = 4099, WHOLE_EVERY = 16, SAME_LENGTH = 1000, MOST_DOUBLED = 6 };
 
 /* Steps the generator of crates/bench_store, and answers its new state. */
 static uint64_t next(uint64_t *state) {
@@ -18,9 +19,14 @@ static uint64_t next(uint64_t *state) {
     return *state;
 }
 
-struct documents documents_of(size_t length) {
-    require(length < POOL_LENGTH, "documents", "a document has to be shorter than 1 MiB");
-    struct documents documents = {malloc(POOL_LENGTH), length};
+/* The largest of many lengths, by their mean. */
+static size_t largest(size_t mean) {
+    return (mean / 4) << MOST_DOUBLED;
+}
+
+struct documents documents_of(size_t length, bool are_many) {
+    require((are_many ? largest(length) : length) < POOL_LENGTH, "documents", "a document has to be below 1 MiB");
+    struct documents documents = {malloc(POOL_LENGTH), length, are_many};
     require(documents.pool != NULL, "documents", "no memory");
     uint64_t state = POOL_SEED, word = 0;
     for (size_t at = 0; at < POOL_LENGTH; at++) {
@@ -35,9 +41,25 @@ void documents_free(struct documents *documents) {
     documents->pool = NULL;
 }
 
+/* Of many lengths half have a quarter of the mean, a quarter of them twice that, and so on, in runs of a thousand
+ * documents: so the blocks of one place have many documents, and those of another few. */
+static size_t length_of(const struct documents *documents, size_t number) {
+    if (!documents->are_many) {
+        return documents->length;
+    }
+    uint64_t bits = (number / SAME_LENGTH + 1) * LENGTH_STEP >> 32;
+    size_t length = documents->length / 4;
+    for (int doubled = 0; doubled < MOST_DOUBLED && bits % 2 == 0; doubled++) {
+        length *= 2;
+        bits /= 2;
+    }
+    return length;
+}
+
 struct bytes document_at(const struct documents *documents, size_t number) {
-    size_t start = number * POOL_STEP % (POOL_LENGTH - documents->length);
-    return (struct bytes){documents->pool + start, documents->length};
+    size_t length = length_of(documents, number);
+    size_t start = number * POOL_STEP % (POOL_LENGTH - length);
+    return (struct bytes){documents->pool + start, length};
 }
 
 static unsigned binary_digits(uint32_t number) {

@@ -2,19 +2,21 @@
 #ifndef DOCUMENTS_H
 #define DOCUMENTS_H
 
+#include <stdbool.h>
 #include <stddef.h>
 #include <stdint.h>
 
 #include "check.h"
 
-/* Pieces of a pool of bytes, one length for all of them. */
+/* Pieces of a pool of bytes: all of one length, or of many lengths, of which it is the mean. */
 struct documents {
     uint8_t *pool;
     size_t length;
+    bool are_many;
 };
 
-/* Makes the pool. The length is below 1 MiB. */
-struct documents documents_of(size_t length);
+/* Makes the pool. The length is below 1 MiB, or below 64 KiB for many. */
+struct documents documents_of(size_t length, bool are_many);
 
 void documents_free(struct documents *documents);
 

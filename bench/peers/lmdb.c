@@ -18,6 +18,7 @@ struct lmdb_log {
 struct lmdb_reader {
     MDB_txn *transaction;
     MDB_dbi table;
+    MDB_cursor *cursor;  /* NULL where gets use none */
 };
 
 static void expect(int code) {
@@ -111,11 +112,21 @@ static void *lmdb_begin(void *opened) {
     require(reader != NULL, "lmdb", "no memory");
     expect(mdb_txn_begin(store->environment, NULL, MDB_RDONLY, &reader->transaction));
     expect(mdb_dbi_open(reader->transaction, NULL, MDB_INTEGERKEY, &reader->table));
+    reader->cursor = NULL;
+    return reader;
+}
+
+static void *lmdb_cursor_begin(void *opened) {
+    struct lmdb_reader *reader = lmdb_begin(opened);
+    expect(mdb_cursor_open(reader->transaction, reader->table, &reader->cursor));
     return reader;
 }
 
 static void lmdb_end(void *begun) {
     struct lmdb_reader *reader = begun;
+    if (reader->cursor != NULL) {
+        mdb_cursor_close(reader->cursor);
+    }
     mdb_txn_abort(reader->transaction);
     free(reader);
 }
@@ -124,6 +135,14 @@ static struct bytes lmdb_get(void *begun, uint32_t number) {
     struct lmdb_reader *reader = begun;
     MDB_val key = {sizeof number, &number}, value;
     expect(mdb_get(reader->transaction, reader->table, &key, &value));
+    return (struct bytes){value.mv_data, value.mv_size};
+}
+
+/* A cursor stays on its page, so a key that is near is found without a search from the root. */
+static struct bytes lmdb_cursor_get(void *begun, uint32_t number) {
+    struct lmdb_reader *reader = begun;
+    MDB_val key = {sizeof number, &number}, value;
+    expect(mdb_cursor_get(reader->cursor, &key, &value, MDB_SET));
     return (struct bytes){value.mv_data, value.mv_size};
 }
 
@@ -158,6 +177,17 @@ const struct side lmdb_side = {
     .begin = lmdb_begin,
     .end = lmdb_end,
     .get = lmdb_get,
+    .iterate = lmdb_iterate,
+    .close = lmdb_close,
+};
+
+/* The store of `lmdb`, read by a cursor. */
+const struct side lmdb_cursor_side = {
+    .name = "lmdb_cursor",
+    .open = lmdb_open,
+    .begin = lmdb_cursor_begin,
+    .end = lmdb_end,
+    .get = lmdb_cursor_get,
     .iterate = lmdb_iterate,
     .close = lmdb_close,
 };

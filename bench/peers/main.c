@@ -2,12 +2,14 @@
  *
  * usage: peers SIDE WORKLOAD PATH [key=number ...]
  *
- * SIDE: plain, lmdb, sqlite, leveldb, rocksdb, cdb, zevk, unopened, path, unchecked, ranged or plain_ranged. PATH: the
- * store, which `write`, `log_append` and `log_synced_once` make, `append` changes and the others read.
+ * SIDE: plain, lmdb, lmdb_cursor, sqlite, leveldb, rocksdb, cdb, zevk, unopened, path, unchecked, ranged or
+ * plain_ranged. PATH: the store, which `write`, `log_append` and `log_synced_once` make, `append` changes and the
+ * others read.
  * WORKLOAD: write, append, log_append, log_synced_once, uniform, hot, zipf, sequence, keep_uniform, keep_sequence,
  * iterate, open, cold, threads, ranges or size; log_uniform and log_open are uniform and open.
- * Keys: n documents, l bytes of each, bs bytes of a block, cache bytes that a reader may keep, q questions (of each
- * thread; of log_append and log_synced_once the documents of a batch), hot documents that are asked for most, threads.
+ * Keys: n documents, l bytes of each, many (1: they have many lengths, and l is the mean), bs bytes of a block, cache
+ * bytes that a reader may keep, q questions (of each thread; of log_append and log_synced_once the documents of a
+ * batch), hot documents that are asked for most, threads.
  */
 #include <inttypes.h>
 #include <stdio.h>
@@ -16,9 +18,10 @@
 
 #include "workloads.h"
 
-static const struct side *const sides[] = {&plain_side,   &lmdb_side, &sqlite_side, &leveldb_side,
-                                           &rocksdb_side, &cdb_side,  &zevk_side,   &unopened_side,
-                                           &path_side,    &unchecked_side, &ranged_side, &plain_ranged_side};
+static const struct side *const sides[] = {&plain_side, &lmdb_side,      &lmdb_cursor_side, &sqlite_side,
+                                           &leveldb_side, &rocksdb_side, &cdb_side,         &zevk_side,
+                                           &unopened_side, &path_side,   &unchecked_side,   &ranged_side,
+                                           &plain_ranged_side};
 
 static const struct {
     const char *name;
@@ -76,6 +79,8 @@ static void take_word(struct work *work, const char *word) {
         work->settings.count = (uint32_t)number;
     } else if (take(word, "l", 0, SIZE_MAX, &number)) {
         work->settings.length = number;
+    } else if (take(word, "many", 0, 1, &number)) {
+        work->settings.are_many = number == 1;
     } else if (take(word, "bs", 0, SIZE_MAX, &number)) {
         work->settings.block_size = number;
     } else if (take(word, "cache", 0, SIZE_MAX, &number)) {

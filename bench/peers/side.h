@@ -13,7 +13,8 @@
 /* How a store is written and read. */
 struct settings {
     uint32_t count;      /* documents, numbered from 0 */
-    size_t length;       /* bytes of each */
+    size_t length;       /* bytes of each, or their mean */
+    bool are_many;       /* the documents have many lengths */
     size_t block_size;   /* bytes of a block, for the sides that take one: ours */
     size_t cache_bytes;  /* what a reader may keep of the file in memory of its own */
     unsigned threads;    /* how many read at once */
@@ -60,8 +61,8 @@ struct side {
     const struct ranges *(*ranges)(const void *reader);
 };
 
-extern const struct side plain_side, lmdb_side, sqlite_side, leveldb_side, rocksdb_side, cdb_side, zevk_side,
-    unopened_side, path_side, unchecked_side, ranged_side, plain_ranged_side;
+extern const struct side plain_side, lmdb_side, lmdb_cursor_side, sqlite_side, leveldb_side, rocksdb_side, cdb_side,
+    zevk_side, unopened_side, path_side, unchecked_side, ranged_side, plain_ranged_side;
 
 /* Beginning and end of a reader, for a side whose threads all read by the store itself. */
 static inline void *begin_shared(void *store) {

@@ -47,7 +47,7 @@ static uint64_t more(uint64_t now, uint64_t before) {
 }
 
 struct told work_write(const struct work *work) {
-    struct documents documents = documents_of(work->settings.length);
+    struct documents documents = documents_of(work->settings.length, work->settings.are_many);
     path_remove(work->path);
     uint64_t start = clock_now();
     work->side->write(work->path, &documents, &work->settings);
@@ -179,7 +179,7 @@ struct told work_append(const struct work *work) {
     require(work->side->append != NULL, work->side->name, "it can't append");
     struct work longer = *work;
     longer.settings.count += (uint32_t)work->questions;
-    struct documents documents = documents_of(work->settings.length);
+    struct documents documents = documents_of(work->settings.length, work->settings.are_many);
     path_sync(work->path);  /* what was written before is not this append's */
     uint64_t start = clock_now();
     work->side->append(work->path, &documents, &work->settings, (uint32_t)work->questions);
@@ -203,7 +203,7 @@ static struct told timed_log(const struct work *work, void (*log_sync)(void *log
     const struct side *side = work->side;
     const uint32_t count = work->settings.count;
     require(side->log_begin != NULL, side->name, "it is no log");
-    struct documents documents = documents_of(work->settings.length);
+    struct documents documents = documents_of(work->settings.length, work->settings.are_many);
     path_remove(work->path);
     syncs_reach_the_system = true;
     void *log = side->log_begin(work->path, &work->settings);

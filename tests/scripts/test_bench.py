@@ -18,10 +18,11 @@ BENCH = TOP / "bench"
 sys.path.append(str(BENCH))
 
 import front  # noqa: E402 (the path is set before)
+import goals  # noqa: E402 (the same)
 import measuring  # noqa: E402 (the same)
 import plan  # noqa: E402 (the same)
 import sides  # noqa: E402 (the same)
-from figures import LABELS, spread_of  # noqa: E402 (the same)
+from figures import LABELS, Spread, outer_values, spread_of  # noqa: E402 (the same)
 from texts import between, factor_text, in_sentence, in_table, two_digit_time  # noqa: E402 (the same)
 
 COMMAND = re.compile(r"<!-- run by: tests/scripts/test_bench.py -->\n    (python3 bench/run\.py .*)\n")
@@ -182,8 +183,19 @@ class Plan(unittest.TestCase):
 
 class Figures(unittest.TestCase):
     def test_a_figure_whose_rounds_lie_far_apart_says_so(self):
-        self.assertEqual(in_table(spread_of(UNEVEN), factor_text), "2.50 [1.75, 3.25]")
+        self.assertEqual(in_table(spread_of(UNEVEN), factor_text), "2.50 [1.00, 4.00]")
         self.assertEqual(in_sentence(spread_of(UNEVEN), factor_text), "about 2.50")
+
+    def test_the_interval_of_a_median_has_it_in_nineteen_of_twenty_cases(self):
+        # As tables of the sign test have it.
+        for count, outer in ((1, 0), (5, 0), (6, 0), (8, 0), (9, 1), (11, 1), (12, 2), (18, 4), (27, 7)):
+            self.assertEqual(outer_values(count), outer)
+        self.assertEqual(spread_of([float(value) for value in (9, 1, 8, 2, 7, 3, 6, 4, 5)]), (2.0, 5.0, 8.0))
+
+    def test_a_goal_is_met_or_missed_only_if_the_interval_tells(self):
+        for low, high, told in ((0.5, 0.62, "met"), (0.5, 0.7, "open"), (0.64, 0.7, "missed")):
+            self.assertEqual(goals.verdict(Spread(low, 0.6, high), 0.6), told)
+        self.assertEqual(goals.verdict(None, 0.6), "not measured")
         self.assertEqual(between([spread_of(EVEN), spread_of(UNEVEN)], factor_text), "about 1.02 to 2.50")
 
     def test_a_figure_whose_rounds_lie_close_is_alone(self):
@@ -224,18 +236,27 @@ class Rounds(unittest.TestCase):
 
     def test_all_sides_are_taken_in_turn(self):
         rounds = measuring.take_all(None, self.measured, self.rows, self.pace(None))
-        self.assertEqual((rounds, self.taken), (5, self.rows * 5))
+        self.assertEqual(rounds, 5)
+        turns = [self.taken[at:at + 2] for at in range(0, 10, 2)]
+        self.assertEqual([set(turn) for turn in turns], [set(self.rows)] * 5)
+        self.assertGreater(len({tuple(turn) for turn in turns}), 1, "the order is the same in every round")
+
+    def test_the_sides_of_a_work_stay_together(self):
+        rows = [plan.Row("read", order, plan.DISK, side, 10, 8) for order in plan.ORDERS for side in "abc"]
+        for turn in range(5):
+            works = [row.workload for row in measuring.shuffled(rows, turn)]
+            self.assertEqual([len(set(works[at:at + 3])) for at in range(0, 12, 3)], [1] * 4)
 
     def test_a_run_whose_time_is_over_has_three_rounds(self):
         rounds = measuring.take_all(None, self.measured, self.rows, self.pace(0))
         self.assertEqual((rounds, len(self.taken)), (3, 6))
 
-    def test_an_uneven_work_is_measured_again_and_the_later_rounds_count(self):
+    def test_an_uneven_work_gets_more_rounds_and_all_of_them_count(self):
         self.nanoseconds = iter([100, 100, 900, 100, 100, 100, 900, 100] + [200] * 100)
         measuring.take_all(None, self.measured, self.rows, measuring.Pace(4, 2, None))
         measuring.even_out(None, self.measured, 4, self.pace(None))
-        self.assertEqual({taken["ns"] for rounds in self.measured.rounds.values() for taken in rounds}, {200})
-        self.assertEqual(list(self.measured.again.values()), [1, 1])
+        self.assertEqual([len(rounds) for rounds in self.measured.rounds.values()], [12, 12])
+        self.assertEqual(list(self.measured.again.values()), [2, 2])
 
     def test_no_work_is_measured_again_after_the_time(self):
         self.nanoseconds = iter([100, 900] * 100)
