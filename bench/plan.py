@@ -268,7 +268,7 @@ def cold_rows(sizes: Sizes) -> List[Row]:
     return [
         Row("cold", "cold", DISK, side, sizes.documents[length], length, questions=sizes.cold)
         for length in (100, 1000, 20000)
-        for side in USUAL_SIDES
+        for side in USUAL_SIDES + PATH_SIDES
     ]
 
 

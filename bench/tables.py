@@ -12,7 +12,7 @@ LENGTHS = [8, 100, 1000, 20000]
 PEER_COLUMNS = ["lmdb", "sqlite", "leveldb", "rocksdb", "cdb", "plain"]
 C_COLUMNS = ["unopened", "zevk"] + PEER_COLUMNS
 HEADS = {"unopened": "`zevk_get`", "zevk": "`zevk_locate`", "path": "`zevk_file_get`", "view": "`StoreView`",
-         "disk": "`DiskFile`", "log": "`SegmentedLog`"}
+         "unchecked": "`zevk_file_get`, unchecked", "disk": "`DiskFile`", "log": "`SegmentedLog`"}
 
 Lines = List[str]
 Wanted = Dict[str, object]
@@ -104,11 +104,12 @@ def _pair(figures: Figures, common: Wanted, name: str) -> str:
 
 
 def other(figures: Figures) -> Lines:
-    lines = head("other work", C_COLUMNS)
+    sides = [*C_COLUMNS[:2], "path", "unchecked", *PEER_COLUMNS]
+    lines = head("other work", sides)
     works = [(dict(group="cold", length=length), f"get, cold, of {length} bytes") for length in (100, 1000, 20000)]
     works += [(dict(group="threads", threads=threads), f"get, uniform, {threads} thread" + "s" * (threads > 1))
               for threads in (1, 8)]
-    return lines + [row_of(name, cells(figures, C_COLUMNS, time_text, wanted)) for wanted, name in works]
+    return lines + [row_of(name, cells(figures, sides, time_text, wanted)) for wanted, name in works]
 
 
 #: how users open a store, and what they call for it

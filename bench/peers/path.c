@@ -37,14 +37,16 @@ static void *opened(const char *path, unsigned flags) {
     return file;
 }
 
+static unsigned scattering(const struct settings *settings) {
+    return settings->scattered ? ZEVK_FILE_SCATTERED : 0;
+}
+
 static void *path_open(const char *path, const struct settings *settings) {
-    (void)settings;
-    return opened(path, 0);
+    return opened(path, scattering(settings));
 }
 
 static void *unchecked_open(const char *path, const struct settings *settings) {
-    (void)settings;
-    return opened(path, ZEVK_FILE_UNCHECKED);
+    return opened(path, ZEVK_FILE_UNCHECKED | scattering(settings));
 }
 
 static struct bytes get(void *reader, uint32_t number) {

@@ -1,4 +1,5 @@
-"""A get by path takes few instructions more than zevk_locate, and answers as the calls in memory do."""
+"""A get by path takes few instructions more than zevk_locate, answers as the calls in memory do, and asks for its pages
+if it is to be quick in a file that is not in memory."""
 
 import re
 import subprocess
@@ -32,6 +33,24 @@ class Costs(ExampleCase):
         )
         self.assertLessEqual(path - table, MOST, f"{path} instructions by path, {table} by the table")
         self.assertGreater(table, 20, "instructions by the table")
+
+
+class Scattered(ExampleCase):
+    ASKED = re.compile(r"madvise\((0x[0-9a-f]+), (\d+), MADV_WILLNEED\) = 0")
+
+    def test_a_get_asks_for_both_of_its_pages_before_it_reads_one(self):
+        self.require("gcc", "strace")
+        lines = b"".join(b"%0300d\n" % number for number in range(5000))
+        packing = self.example("pack_lines.c")
+        packed = subprocess.run([packing, self.folder / "store"], input=lines, env=with_library())
+        self.assertEqual(packed.returncode, 0)
+        program, trace = self.compiled_by(GCC, "scattered.c", in_cpp=False, sources=()), self.folder / "trace"
+        documents = ["0", "2500", "4999", "17"]
+        told = self.succeed("strace", "-o", trace, "-e", "trace=madvise", program, self.folder / "store", *documents)
+        read = [tuple(map(int, line.split())) for line in told.decode().splitlines()]
+        asked = [int(start, 16) // int(size) for start, size in self.ASKED.findall(trace.read_text())]
+        self.assertEqual(list(zip(asked[::2], asked[1::2])), read)
+        self.assertEqual(trace.read_text().count("MADV_RANDOM) = 0"), 1)
 
 
 class Vectors(LibraryCase):

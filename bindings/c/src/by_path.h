@@ -10,6 +10,7 @@ struct zevk_file {
     zevk_block *table;     /* NULL with ZEVK_FILE_UNCHECKED, and then only */
     size_t blocks;
     uint32_t num_docs;
+    size_t page;           /* the bytes of a page of memory with ZEVK_FILE_SCATTERED, else 0 */
 };
 
 /* zevk_locate without the look for arrays of length 0 (null_arrays.c): an open file has bytes, and its table a row. */

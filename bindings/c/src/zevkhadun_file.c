@@ -115,6 +115,16 @@ static int fill_table(zevk_file *file) {
     return (int)error;
 }
 
+/* Tells the system that reads of the file will be far apart. The check before it has read the index in order. */
+static int scatter(zevk_file *file) {
+    long page = sysconf(_SC_PAGESIZE);
+    if (page <= 0) {
+        return -errno;
+    }
+    file->page = (size_t)page;
+    return -posix_madvise((void *)file->bytes, file->len, POSIX_MADV_RANDOM);
+}
+
 int zevk_open_descriptor(int descriptor, unsigned flags, zevk_file **opened) {
     zevk_file *file = calloc(1, sizeof *file);
     if (file == NULL) {
@@ -124,6 +134,9 @@ int zevk_open_descriptor(int descriptor, unsigned flags, zevk_file **opened) {
     int error = map_file(file, descriptor);
     if (error == 0) {
         error = is_unchecked ? (int)zevk_num_docs(file->bytes, file->len, &file->num_docs) : fill_table(file);
+    }
+    if (error == 0 && (flags & ZEVK_FILE_SCATTERED) != 0) {
+        error = scatter(file);
     }
     if (error != 0) {
         zevk_file_close(file);
@@ -149,7 +162,7 @@ int zevk_descriptor(int folder, const char *path) {
 }
 
 int zevk_file_open(const char *path, unsigned flags, zevk_file **file) {
-    if ((flags & ~ZEVK_FILE_UNCHECKED) != 0) {
+    if ((flags & ~(ZEVK_FILE_UNCHECKED | ZEVK_FILE_SCATTERED)) != 0) {
         return zevk_returned(-EINVAL);
     }
     int descriptor = zevk_descriptor(AT_FDCWD, path);
@@ -176,6 +189,30 @@ uint32_t zevk_file_num_docs(const zevk_file *file) {
     return file->num_docs;
 }
 
+/* Asks the system for the page of a byte of the file, and doesn't wait for it. An advice that is refused costs time. */
+static void ask_for(const zevk_file *file, size_t at) {
+    size_t start = at & ~(file->page - 1);
+    (void)posix_madvise((void *)(file->bytes + start), file->page, POSIX_MADV_WILLNEED);
+}
+
+/* Asks for the pages of a get at once: that of the document's entry in the table of its block, and the one in which the
+ * document begins if those of the block have one length. It stays out of the gets that don't ask, which it would slow. */
+__attribute__((cold, noinline)) static void ask_for_both(const zevk_file *file, uint32_t doc_id) {
+    zevk_block_place block;
+    size_t wanted;
+    if (zevk_block_of(file->bytes, file->len, file->len, doc_id, &block, &wanted) != ZEVK_DONE) {
+        return;
+    }
+    size_t documents = block.end_doc - block.first_doc, before = doc_id - block.first_doc;
+    size_t table_len = 4 * (documents + 1);
+    if (before >= documents || block.len < table_len || block.start > file->len || file->len - block.start < block.len) {
+        return;
+    }
+    size_t table = block.start + block.len - table_len;
+    ask_for(file, table + 4 * before);
+    ask_for(file, block.start + (size_t)((double)(block.len - table_len) * (double)before / (double)documents));
+}
+
 /* Gets a document of a file that has no table. */
 static int get_without_table(const zevk_file *file, uint32_t doc_id, zevk_document *document) {
     zevk_place place;
@@ -188,6 +225,9 @@ static int get_without_table(const zevk_file *file, uint32_t doc_id, zevk_docume
 
 int zevk_file_get(const zevk_file *file, uint32_t doc_id, zevk_document *document) {
     zevk_place place;
+    if (file->page != 0) {
+        ask_for_both(file, doc_id);
+    }
     if (file->table == NULL) {
         return get_without_table(file, doc_id, document);
     }

@@ -91,6 +91,8 @@ static void are_written_and_read(void) {
         write_store(path, 3, 3 + count, sizes[at / 12], period);
         has_documents(path, 0, 3, 3 + count);
         has_documents(path, ZEVK_FILE_UNCHECKED, 3, 3 + count);
+        has_documents(path, ZEVK_FILE_SCATTERED, 3, 3 + count);
+        has_documents(path, ZEVK_FILE_UNCHECKED | ZEVK_FILE_SCATTERED, 3, 3 + count);
         has_facts(path, count, period);
     }
 }

@@ -62,6 +62,10 @@ static void opens_as_in_memory(const uint8_t *bytes, size_t len) {
     WANT(file == NULL || zevk_file_num_docs(file) == num_docs);
     zevk_file_close(file);
     file = NULL;
+    WANT(zevk_file_open("changed", ZEVK_FILE_SCATTERED, &file) == (int)zevk_open(copy, len, table, 2, &count, &num_docs));
+    WANT(file == NULL || zevk_file_num_docs(file) == num_docs);
+    zevk_file_close(file);
+    file = NULL;
     WANT(zevk_file_open("changed", ZEVK_FILE_UNCHECKED, &file) == (int)zevk_num_docs(copy, len, &num_docs));
     WANT(file == NULL || zevk_file_num_docs(file) == num_docs);
     zevk_file_close(file);
@@ -89,8 +93,10 @@ static void files_are_refused(void) {
 static void unknown_flags_are_refused(void) {
     write_file("flags", two, sizeof two);
     for (unsigned bit = 1; bit < 32; bit++) {
-        WANT(opening("flags", 1u << bit) == -EINVAL && opening("none", 1u << bit) == -EINVAL);
-        WANT(opening("flags", ZEVK_FILE_UNCHECKED | 1u << bit) == -EINVAL);
+        if (1u << bit != ZEVK_FILE_SCATTERED) {
+            WANT(opening("flags", 1u << bit) == -EINVAL && opening("none", 1u << bit) == -EINVAL);
+            WANT(opening("flags", ZEVK_FILE_UNCHECKED | ZEVK_FILE_SCATTERED | 1u << bit) == -EINVAL);
+        }
     }
     for (unsigned bit = 0; bit < 32; bit++) {
         zevk_file_writer *writer = NULL;
@@ -285,6 +291,8 @@ int main(int argc, char **argv) {
     unknown_flags_are_refused();
     damage_is_passed(0);
     damage_is_passed(ZEVK_FILE_UNCHECKED);
+    damage_is_passed(ZEVK_FILE_SCATTERED);
+    damage_is_passed(ZEVK_FILE_UNCHECKED | ZEVK_FILE_SCATTERED);
     other_second_files_are_refused();
     files_are_not_replaced_unasked();
     writers_are_refused();
