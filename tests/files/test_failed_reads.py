@@ -29,11 +29,31 @@ class FailedReads(OldStoreCase):
 
     def test_each_command_on_a_store_names_the_file_and_the_reason(self):
         self.pack("a.store", self.WIDE)
-        for words in (["get", "a.store", "7"], ["cat", "a.store"], ["inspect", "a.store"]):
-            for when in (2, 3, 4):
+        for words in (
+            ["get", "a.store", "7"],
+            ["cat", "a.store"],
+            ["inspect", "a.store"],
+            ["verify", "a.store"],
+            ["export", "--tantivy", "out", "a.store"],
+        ):
+            for when in (1, 2, 3, 4):
                 self.assert_reported("a.store", "a.store", when, *words)
-        self.assert_reported("a.store", "a.store", 4, "verify", "a.store")
-        self.assert_reported("a.store", "a.store", 4, "export", "--tantivy", "out", "a.store")
+
+    def test_the_look_for_what_is_broken_names_the_file_and_the_reason(self):
+        self.pack("a.store", self.WIDE)
+        stored = bytearray((self.folder / "a.store").read_bytes())
+        stored[-40] ^= 0x55
+        (self.folder / "a.store").write_bytes(stored)
+        self.assertIn("broken", self.program.ends(1, "verify", "a.store").stdout.decode())
+        for when in (4, 5):
+            self.assert_reported("a.store", "a.store", when, "verify", "a.store")
+
+    def test_an_input_that_is_copied_is_named_with_the_reason(self):
+        self.pack("a.store", self.WIDE)
+        (self.folder / "more").write_bytes(b"one more\n")
+        for words in (["merge", "out", "a.store"], ["append", "a.store", "more"]):
+            for when in range(1, 9):
+                self.assert_reported("a.store", "a.store", when, *words)
 
     def test_each_command_on_a_log_names_the_folder_and_the_reason(self):
         self.program.gives("log", "append", "ev", input=self.WIDE)

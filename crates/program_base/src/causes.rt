@@ -1,14 +1,15 @@
 //! What went wrong where a library returns an error.
 
 use crate::failure::FailureCause;
-use docstore::{FileHandle, NoMemory, StoreError};
+use crate::store_file::explained;
+use docstore::{NoMemory, StoreError};
 use document_framing::FramingFault;
 use std::alloc::{AllocError, AllocFailed};
 use std::io;
 use store_commands::RequestError;
 use store_commands::block_walk::GivingError;
 use store_commands::merging::MergeFailure;
-use store_files::CreateError;
+use store_files::{CreateError, DiskFile, OsFile};
 
 impl From<io::Error> for FailureCause {
     fn from(error: io::Error) -> FailureCause {
@@ -56,13 +57,12 @@ impl From<GivingError<FailureCause>> for FailureCause {
     }
 }
 
-impl<H: FileHandle> From<MergeFailure<H>> for FailureCause {
-    fn from(failure: MergeFailure<H>) -> FailureCause {
+impl From<MergeFailure<DiskFile<OsFile>>> for FailureCause {
+    fn from(failure: MergeFailure<DiskFile<OsFile>>) -> FailureCause {
         match failure {
             MergeFailure::Request(error) => FailureCause::from(error),
             MergeFailure::Refused { error, reader } => {
-                drop(reader);
-                FailureCause::Store(error)
+                explained(reader.file(), FailureCause::Store(error))
             }
         }
     }

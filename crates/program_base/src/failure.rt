@@ -44,6 +44,8 @@ pub enum FailureCause {
     Store(StoreError),
     /// A request to a store was refused.
     Request(RequestError),
+    /// The bytes after the store are not those that tantivy's directory leaves.
+    NoTantivyTail,
     /// The input of lengths and documents ends within one.
     CutInput,
     /// Another number of documents or records came than was expected.
@@ -84,6 +86,7 @@ impl FailureCause {
         match self {
             FailureCause::NoText => "file names and other arguments have to be UTF-8",
             FailureCause::InputIsOutput => "this input is the output too",
+            FailureCause::NoTantivyTail => "no footer of tantivy's directory at the end",
             FailureCause::CutInput => "the input ends inside a document",
             FailureCause::NotLog => "not a log",
             FailureCause::BusyLog => "the log is being written by another",
@@ -105,6 +108,8 @@ impl FailureCause {
             FailureCause::Create(CreateError::Exists) =>
                 "; choose another name, or give '--replace'",
             FailureCause::InputIsOutput => "; write to another name, and rename that file",
+            FailureCause::NoTantivyTail =>
+                "; leave '--tantivy' out for a file that is only a store",
             FailureCause::CutInput => "; does it have another framing?",
             FailureCause::Request(error) => advice_for_request(error),
             FailureCause::Store(error) => advice_for(error),
@@ -127,6 +132,7 @@ impl FailureCause {
             | FailureCause::NoSuchNumber(_)
             | FailureCause::InputIsOutput
             | FailureCause::Request(_)
+            | FailureCause::NoTantivyTail
             | FailureCause::CutInput
             | FailureCause::OtherCount { .. }
             | FailureCause::NotLog
@@ -160,7 +166,6 @@ fn status_of(error: &StoreError) -> Status {
 fn advice_for_request(error: &RequestError) -> &'static str {
     match error {
         RequestError::TooManyDocuments { .. } => "; 'zevkhadun verify' says where",
-        RequestError::NoTantivyTail => "; leave '--tantivy' out for a file that is only a store",
         _ => "",
     }
 }

@@ -2,7 +2,7 @@
 
 use crate::failure::FailureCause;
 use crate::progress::Progress;
-use crate::store_file::{DiskReader, NotRead, StorePath, reader_of, with_reason};
+use crate::store_file::{DiskReader, NotRead, StorePath, explained, reader_of, with_reason};
 use crate::verify_output::{Found, ReportForm};
 use store_commands::broken_part::{BrokenPart, broken_part};
 use store_commands::checking::check_blocks;
@@ -43,9 +43,12 @@ impl Verifying {
                 with_reason(&reader, found)
             }
             Err(NotRead::Store(mut refusal)) => {
-                match broken_part(rt.alloc(), &mut refusal.file, refusal.error)? {
-                    BrokenPart::Footer => Ok(Found::Footer(refusal.error)),
-                    part => Ok(Found::Part(part)),
+                match broken_part(rt.alloc(), &mut refusal.file, refusal.error) {
+                    Ok(BrokenPart::Footer) => Ok(Found::Footer(refusal.error)),
+                    Ok(part) => Ok(Found::Part(part)),
+                    Err(error) => {
+                        Err(explained(refusal.file.handle(), FailureCause::Store(error)))
+                    }
                 }
             }
             Err(refusal) => Err(FailureCause::from(refusal)),

@@ -6,7 +6,7 @@ use clap::ArgMatches;
 use docstore::{FileSlice, OpenError, StoreError, StoreReader};
 use std::alloc::AllocFailed;
 use std::fs;
-use store_commands::store_part::{before_tail, store_in};
+use store_commands::store_part::store_end;
 use store_files::{CreateError, DiskFile, OsFile};
 
 /// A store's file, or the part of a file that is one.
@@ -83,11 +83,12 @@ pub fn whole_file(rt: &HostRuntime, path: &str) -> Result<StoreFile, FailureCaus
 impl<'a> StorePath<'a> {
     /// The file that is the store.
     pub fn file(&self, rt: &HostRuntime) -> Result<StoreFile, FailureCause> {
-        let file = whole_file(rt, self.path)?;
-        if self.is_tantivy {
-            Ok(before_tail(rt.alloc(), file)?)
-        } else {
-            Ok(store_in(rt.alloc(), file)?)
+        let mut file = whole_file(rt, self.path)?;
+        match store_end(rt.alloc(), &mut file) {
+            Ok(Some(end)) => Ok(file.narrow(0..end)),
+            Ok(None) if self.is_tantivy => Err(FailureCause::NoTantivyTail),
+            Ok(None) => Ok(file),
+            Err(error) => Err(explained(file.handle(), FailureCause::Store(error))),
         }
     }
 

@@ -4,7 +4,7 @@ use Rattle.std.specs.Prelude.{◌||◌}
 use Rattle.std.specs.List.{list_any}
 use Rattle.std.proofs.lemmas.List.{length-map, get_or-map, get_or_default}
 use Rattle.store_commands.specs.declared.request_error.RequestError.{RequestError}
-use Rattle.store_commands.specs.declared.request_error.RequestError.TheVariants.{NoRange, NoDocument, TooManyDocuments, NoTantivyTail, Store}
+use Rattle.store_commands.specs.declared.request_error.RequestError.TheVariants.{NoRange, NoDocument, TooManyDocuments, Store}
 use Rattle.store_commands.specs.LeftOut.{parts_of, part_names, word_names, RefusesOnePart, RefusesParts, RefusesWords}
 
 any_mapped : {X Y : Type 0} (f : X → Y) (p : Y → Bool) (xs : List X) → list_any (λ x. p (f x)) xs ≡ list_any p (map f xs)
@@ -32,7 +32,6 @@ part_refuses count word items k d e same lt h = by e h
     by (NoRange text) h = (k, (get_or items k d).now, within, here, h)
     by (NoDocument id documents) h = (k, (get_or items k d).now, within, here, h)
     by (TooManyDocuments documents bytes) h = absurd h
-    by NoTantivyTail h = absurd h
     by (Store x) h = h
 
 -- a word that is refused refuses the words
@@ -47,5 +46,4 @@ word_refuses count words k d e lt h = by e h
     by (NoRange text) h = (k, get_or words k d, lt, here, h)
     by (NoDocument id documents) h = (k, get_or words k d, lt, here, h)
     by (TooManyDocuments documents bytes) h = (k, get_or words k d, lt, here, h)
-    by NoTantivyTail h = (k, get_or words k d, lt, here, h)
     by (Store x) h = h

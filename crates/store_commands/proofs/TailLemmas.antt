@@ -1,8 +1,7 @@
 -- The tail of a file of tantivy's directory.
-use Rattle.std.proofs.Common.{◌≡◌, ◌≢◌, ℕ, ◌+◌, ◌-◌, ◌<◌, ◌≤◌, ◌^◌, List, [], ◌++◌, length, take, drop, sym, ap, ◌∙◌, subst, arith, lit<, length-append, append_assoc, inl, inr}
-use Rattle.std.specs.Prelude.{slice_range, ◌⊎◌}
+use Rattle.std.proofs.Common.{◌≡◌, ◌≢◌, ℕ, ◌+◌, ◌-◌, ◌<◌, ◌≤◌, ◌^◌, List, [], ◌++◌, length, take, drop, sym, ap, ◌∙◌, subst, arith, lit<, length-append, append_assoc}
+use Rattle.std.specs.Prelude.{slice_range}
 use Rattle.std.proofs.lemmas.List.{append-nil, take-append-drop, length-take-le, length-drop, drop-drop, take_all, drop_at}
-use Rattle.store_base.specs.Files.{Part, ReadsOnce}
 use Rattle.store_base.specs.Serialize.{fixed}
 use Rattle.store_base.specs.SerializeLemmas.{length-fixed, fixed_numbers_are_apart}
 use Rattle.store_commands.specs.Tails.{tail_of, HasTail, HasNoTail}
@@ -67,8 +66,3 @@ has_tail file tail body n long at is few e le =
           ∙ ap (λ (xs : List ℕ). take front file ++ xs) (sym (take-append-drop n (drop front file)) ∙ ap (λ (xs : List ℕ). text ++ xs) (rest ∙ last ∙ ap tail_of (sym size)));
     } in
     subst (λ (k : ℕ). HasTail file (take k file)) (sym whole) all
-
--- a look leaves the content
-pub same_content : (file read : Part) → ReadsOnce 8 file read ⊎ ((length file.content < 8) × (read ≡ file)) → read.content ≡ file.content
-same_content file read (inl once) = once.content
-same_content file read (inr short) = ap (λ (p : Part). p.content) short.1

@@ -2,11 +2,8 @@
 use Rattle.std.specs.Prelude.{◌≡◌, ℕ, ◌-◌, ◌<◌, ◌≤◌, ◌^◌, ◌⊎◌, IsTrue, List, ◌++◌, length, slice_range, Err, Option, Some, None}
 use Rattle.store_base.specs.Files.{Part, ReadsOnce}
 use Rattle.store_base.specs.Serialize.{fixed}
-use Rattle.store_format.specs.Extraction.{narrowed}
 use Rattle.store_format.specs.FileReading.{Comes}
 use Rattle.store_base.specs.declared.error.StoreError.{StoreError}
-use Rattle.store_commands.specs.declared.request_error.RequestError.{RequestError}
-use Rattle.store_commands.specs.declared.request_error.RequestError.TheVariants.{NoTantivyTail, Store}
 
 -- Bytes from one place to another are no range of this many bytes.
 abbrev pub IsNoRange : ℕ → ℕ → ℕ → Type 0
@@ -34,26 +31,5 @@ HasLooked file read None = (ReadsOnce 8 file read ⊎ ((length file.content < 8)
     × (IsTrue file.honest → HasNoTail file.content)
 
 -- The read of a file's last eight bytes failed, or memory ran out.
-abbrev pub FailsLook : Part → StoreError → Type 0
-FailsLook file e = (read : Part) × Comes file (length file.content - 8) (length file.content) (Err e) read
-
--- The store of a file, after one read of its last eight bytes.
-pub record IsCutOff (file part : Part) : Type 0 where
-  pub read : Part
-  pub once : ReadsOnce 8 file read
-  pub cut : part ≡ narrowed read part.content
-  pub tail : IsTrue file.honest → HasTail file.content part.content
-
--- Why a file's tail is refused: an honest file has none, a read failed, or memory ran out.
-abbrev pub RefusesTail : Part → RequestError → Type 0
-RefusesTail file NoTantivyTail = IsTrue file.honest → HasNoTail file.content
-RefusesTail file (Store e) = FailsLook file e
-RefusesTail file _ = ⊥
-
--- The store of a file, after one read of its last eight bytes where it has as many: what is before a tail, or all.
-pub record IsStoreIn (file part : Part) : Type 0 where
-  pub read : Part
-  pub once : ReadsOnce 8 file read ⊎ ((length file.content < 8) × (read ≡ file))
-  pub cut : part ≡ narrowed read part.content
-  pub store : IsTrue file.honest
-      → HasTail file.content part.content ⊎ (HasNoTail file.content × (part.content ≡ file.content))
+abbrev pub FailsLook : Part → Part → StoreError → Type 0
+FailsLook file read e = Comes file (length file.content - 8) (length file.content) (Err e) read

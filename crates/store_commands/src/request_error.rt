@@ -17,9 +17,6 @@ pub enum RequestError {
     /// that are kept would take more memory than the file.
     #[error("it claims {num_docs} documents in {bytes} bytes of blocks and index, so some of them are damaged")]
     TooManyDocuments { num_docs: DocId, bytes: u64 },
-    /// The bytes after the store are not those that tantivy's directory leaves.
-    #[error("no footer of tantivy's directory at the end")]
-    NoTantivyTail,
     /// A call on the store was refused.
     #[error("{0}")]
     Store(StoreError),

@@ -1,13 +1,11 @@
-//! Parts of a file: a range of its bytes, and the store in a file of tantivy's directory.
+//! Parts of a file: a range of its bytes, and where the store ends in a file of tantivy's directory.
 
 ghost use Rattle.std.specs.Prelude.{◌≡◌, ◌≢◌, ◌<◌, ◌≤◌, ◌-◌, ◌^◌, ◌⊎◌, ℕ, Err, IfOk, IfErr, IsErrOf};
 ghost use Rattle.std.specs.Prelude.{MatchOption, length};
 ghost use Rattle.layered_index.specs.IndexHeads.{ReadsAtMost};
 ghost use Rattle.store_format.specs.FileReading.{Comes};
-ghost use Rattle.store_commands.specs.Tails.{IsNoRange, tail_of, IsCutOff, RefusesTail};
-ghost use Rattle.store_commands.specs.Tails.{HasLooked, FailsLook, IsStoreIn};
+ghost use Rattle.store_commands.specs.Tails.{IsNoRange, tail_of, HasLooked, FailsLook};
 
-use crate::request_error::RequestError;
 use docstore::{BinarySerializable, FileHandle, FileSlice, OwnedBytes, StoreError};
 use std::alloc::Global;
 
@@ -55,13 +53,15 @@ fn tail_length(alloc: Global, tail: &[u8]) -> Option<u64>
     Some(u64::from(length))
 }
 
-// Where the store of a file ends to which tantivy's directory appended its bytes, by one read of the last of them.
-fn store_end<H: FileHandle>(
+/// Where the store of a file ends to which tantivy's directory appended its bytes, by one read of the last eight of
+/// them. None where the file has no such bytes: a store ends in bytes that are written as 0, and so is never taken for
+/// one that they follow.
+pub fn store_end<H: FileHandle>(
     alloc: Global,
     file: &mut FileSlice<H>,
 ) -> Result<Option<u64>, StoreError>
     ensures end { IfOk result (HasLooked file.old file.new) }
-    ensures failed { IfErr result (FailsLook file.old) }
+    ensures failed { IfErr result (FailsLook file.old file.new) }
 {
     let len = file.len();
     if len < TANTIVY_TAIL_LEN {
@@ -76,33 +76,4 @@ fn store_end<H: FileHandle>(
         return Ok(None);
     }
     Ok(Some(body - length))
-}
-
-/// The store before what tantivy's directory appends to it, by one read of the file.
-pub fn before_tail<H: FileHandle>(
-    alloc: Global,
-    mut file: FileSlice<H>,
-) -> Result<FileSlice<H>, RequestError>
-    ensures cut { IfOk result (IsCutOff file) }
-    ensures refused { IfErr result (RefusesTail file) }
-{
-    match store_end(alloc, &mut file)? {
-        Some(end) => Ok(file.narrow(0..end)),
-        None => Err(RequestError::NoTantivyTail),
-    }
-}
-
-/// The store of a file, with or without what tantivy's directory appends to it, by one read of the file's last eight
-/// bytes. A store ends in bytes that are written as 0, and so is not taken for one with a tail.
-pub fn store_in<H: FileHandle>(
-    alloc: Global,
-    mut file: FileSlice<H>,
-) -> Result<FileSlice<H>, StoreError>
-    ensures store { IfOk result (IsStoreIn file) }
-    ensures failed { IfErr result (FailsLook file) }
-{
-    match store_end(alloc, &mut file)? {
-        Some(end) => Ok(file.narrow(0..end)),
-        None => Ok(file),
-    }
 }
