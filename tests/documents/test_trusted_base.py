@@ -125,9 +125,9 @@ class TrustedBase(Rules):
             self.assertRegex(tests, rf"\b(?:fn|def) {test}\b")
         self.assert_looked_at(len(bodies), 8, "bodies")
 
-    def test_main_alone_names_the_files_of_the_system_for_stores(self):
-        """All that the program writes of stores is written by functions over any system."""
-        crates = ("program_base", "program_stores", "zevkhadun")
+    def test_main_alone_names_the_files_of_the_system(self):
+        """All that the program writes is written by functions over any system, and so is what it reads of logs."""
+        crates = ("program_base", "program_stores", "program_logs", "zevkhadun")
         paths = [path for crate in crates for path in TOP.glob(f"crates/{crate}/src/*.rt")]
         named = [path.relative_to(TOP / "crates").as_posix() for path in paths if "HostFiles" in text_of(path)]
         self.assertEqual(named, ["zevkhadun/src/main.rt"])

@@ -1,5 +1,7 @@
 //! `log append`: puts records after those of a log.
 
+ghost use Rattle.std.specs.Prelude.{◌≡◌, ℕ, List, [], IsTrue};
+
 use crate::FOLDER;
 use crate::opened_log::{OpenedLog, TailOptions};
 use crate::places::{open_or_begin, tail_bytes};
@@ -18,6 +20,7 @@ use program_base::input_files::{files_from, inputs, list_of, names_of, total_byt
 use program_base::progress::Progress;
 use segmented_log::Commit;
 use std::alloc::{AllocError, Global};
+use store_files::SystemFiles;
 
 const EXAMPLE: &str = "\
 The log is begun if FOLDER is missing or empty. Once 'append' ends with status 0, all records are on the disk. A crash
@@ -129,18 +132,21 @@ fn options_of(alloc: Global, matches: &ArgMatches<'_>) -> Result<AppendOptions, 
 }
 
 // The log at a path, and how records are appended to it.
-fn appending_of<'a>(
+fn appending_of<'a, S: SystemFiles>(
     rt: &'a HostRuntime,
+    system: S,
     path: &'a str,
     options: AppendOptions,
     total: Option<u64>,
-) -> Result<Appending<'a>, Failure> {
+) -> Result<Appending<'a, S>, Failure>
+    requires unchanged { IsTrue S.honest → (d : List ℕ) → S.changes system d ≡ [] }
+{
     let alloc = rt.alloc();
     let numbers = match options.prints_numbers {
         true => Some(with_file(alloc, path, standard_output(rt))?),
         false => None,
     };
-    let opened = open_or_begin(rt, path, options.tail);
+    let opened = open_or_begin(rt, system, path, options.tail);
     let log = with_file(alloc, path, opened)?;
     let end = log.end();
     Ok(Appending {
@@ -159,7 +165,7 @@ fn appending_of<'a>(
 }
 
 // Prints a line on what was appended, where progress is shown.
-fn summarize(appending: &Appending<'_>) {
+fn summarize<S: SystemFiles>(appending: &Appending<'_, S>) {
     if appending.progress.is_shown() {
         let (appended, seconds) = (
             appending.appended,
@@ -170,7 +176,7 @@ fn summarize(appending: &Appending<'_>) {
 }
 
 // Reports why not all records were appended, or their numbers not printed, and then which records are in the log.
-fn report(appending: &Appending<'_>, failure: &Failure) -> Result<(), Failure> {
+fn report<S: SystemFiles>(appending: &Appending<'_, S>, failure: &Failure) -> Result<(), Failure> {
     let Some(status) = failure.report(appending.rt) else {
         return Ok(());
     };
@@ -185,7 +191,10 @@ fn report(appending: &Appending<'_>, failure: &Failure) -> Result<(), Failure> {
 }
 
 // Appends the records of these files, or of the standard input where none are named, and says how many there were.
-fn append_all(appending: &mut Appending<'_>, paths: Option<&[&str]>) -> Result<(), Failure> {
+fn append_all<S: SystemFiles>(
+    appending: &mut Appending<'_, S>,
+    paths: Option<&[&str]>,
+) -> Result<(), Failure> {
     let failure = match appending.append_inputs(paths) {
         Ok(()) => appending.output_failure.take(),
         Err(failure) => Some(failure),
@@ -202,7 +211,7 @@ fn append_all(appending: &mut Appending<'_>, paths: Option<&[&str]>) -> Result<(
 
 // Seals a large tail. Its records are on the disk already, so where that fails they are there all the same, and a later
 // writer seals them.
-fn seal_large(rt: &HostRuntime, path: &str, log: &mut OpenedLog) {
+fn seal_large<S: SystemFiles>(rt: &HostRuntime, path: &str, log: &mut OpenedLog<S>) {
     if let Ok(Some(bytes)) = tail_bytes(rt, path) {
         if bytes >= LARGE_TAIL {
             let _ = log.seal();
@@ -211,14 +220,17 @@ fn seal_large(rt: &HostRuntime, path: &str, log: &mut OpenedLog) {
 }
 
 // Appends them to the log at a path.
-fn append(
+fn append<S: SystemFiles>(
     rt: &HostRuntime,
+    system: S,
     path: &str,
     options: AppendOptions,
     paths: Option<&[&str]>,
-) -> Result<(), Failure> {
+) -> Result<(), Failure>
+    requires unchanged { IsTrue S.honest → (d : List ℕ) → S.changes system d ≡ [] }
+{
     let total = paths.and_then(|paths| total_bytes(rt, paths));
-    let mut appending = appending_of(rt, path, options, total)?;
+    let mut appending = appending_of(rt, system, path, options, total)?;
     let appended = append_all(&mut appending, paths);
     let Appending { mut log, .. } = appending;
     if appended.is_ok() {
@@ -229,7 +241,13 @@ fn append(
 }
 
 /// Appends the records.
-pub fn run(rt: &HostRuntime, matches: &ArgMatches<'_>) -> Result<(), Failure> {
+pub fn run<S: SystemFiles>(
+    rt: &HostRuntime,
+    system: S,
+    matches: &ArgMatches<'_>,
+) -> Result<(), Failure>
+    requires unchanged { IsTrue S.honest → (d : List ℕ) → S.changes system d ≡ [] }
+{
     let alloc = rt.alloc();
     let path = word(alloc, matches, FOLDER)?;
     let options = options_of(alloc, matches)?;
@@ -238,5 +256,11 @@ pub fn run(rt: &HostRuntime, matches: &ArgMatches<'_>) -> Result<(), Failure> {
     let names = names_of(alloc, words.unwrap_or(&[]), list.as_deref());
     let names = with_file(alloc, path, names)?;
     let are_named = words.is_some() || list.is_some();
-    append(rt, path, options, are_named.then_some(names.as_slice()))
+    append(
+        rt,
+        system,
+        path,
+        options,
+        are_named.then_some(names.as_slice()),
+    )
 }

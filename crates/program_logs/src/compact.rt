@@ -1,5 +1,7 @@
 //! `log compact`: joins segments.
 
+ghost use Rattle.std.specs.Prelude.{◌≡◌, ℕ, List, [], IsTrue};
+
 use crate::places::open_to_write;
 use crate::segments::segment_numbers;
 use crate::{FOLDER, folder, is_seen};
@@ -9,6 +11,7 @@ use program_base::byte_size::parse_size;
 use program_base::command_words::{Argument, command_of};
 use program_base::failure::{Failure, FailureCause, with_file};
 use std::alloc::{AllocError, Global};
+use store_files::SystemFiles;
 
 // The name of the argument for the size of a joined segment.
 const SIZE: &str = "size";
@@ -50,8 +53,16 @@ fn size_of(alloc: Global, matches: &ArgMatches<'_>) -> Result<u64, Failure> {
 }
 
 // Joins segments of the log at a path, and says what it did if that is seen.
-fn compact(rt: &HostRuntime, path: &str, size: u64, is_seen: bool) -> Result<(), FailureCause> {
-    let mut log = open_to_write(rt, path)?;
+fn compact<S: SystemFiles>(
+    rt: &HostRuntime,
+    system: S,
+    path: &str,
+    size: u64,
+    is_seen: bool,
+) -> Result<(), FailureCause>
+    requires unchanged { IsTrue S.honest → (d : List ℕ) → S.changes system d ≡ [] }
+{
+    let mut log = open_to_write(rt, system, path)?;
     let before = segment_numbers(rt, path)?.len();
     let compacted = log.compact(size);
     log.close(rt, path);
@@ -69,10 +80,16 @@ fn compact(rt: &HostRuntime, path: &str, size: u64, is_seen: bool) -> Result<(),
 }
 
 /// Joins the segments.
-pub fn run(rt: &HostRuntime, matches: &ArgMatches<'_>) -> Result<(), Failure> {
+pub fn run<S: SystemFiles>(
+    rt: &HostRuntime,
+    system: S,
+    matches: &ArgMatches<'_>,
+) -> Result<(), Failure>
+    requires unchanged { IsTrue S.honest → (d : List ℕ) → S.changes system d ≡ [] }
+{
     let alloc = rt.alloc();
     let path = arguments::word(alloc, matches, FOLDER)?;
     let size = size_of(alloc, matches)?;
     let is_seen = is_seen(rt, matches);
-    with_file(alloc, path, compact(rt, path, size, is_seen))
+    with_file(alloc, path, compact(rt, system, path, size, is_seen))
 }

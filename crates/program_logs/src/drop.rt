@@ -1,15 +1,18 @@
 //! `log drop`: removes the oldest records.
 
+ghost use Rattle.std.specs.Prelude.{◌≡◌, ℕ, List, [], IsTrue};
+
 use crate::log_refusal::refused;
 use crate::places::folder_to_write;
-use crate::read_log::open_to_read;
 use crate::record_span::RecordSpan;
 use crate::{FOLDER, folder, is_seen};
 use clap::{ArgMatches, Command};
 use program_base::arguments::{self, wrong_words};
 use program_base::command_words::{Argument, command_of};
 use program_base::failure::{Failure, FailureCause, with_file};
+use segmented_log::LogReader;
 use std::alloc::{AllocError, Global};
+use store_files::{DiskFolder, SystemFiles};
 
 // The name of the argument for the first number that stays.
 const BEFORE: &str = "before";
@@ -53,9 +56,9 @@ fn number_of(alloc: Global, matches: &ArgMatches<'_>) -> Result<u64, Failure> {
 // What is said where records that might go stay.
 const STAYING: &str = "a segment goes whole, and records of the tail go once they are sealed";
 
-// How many records before a number a log has; none where it can't be read.
-fn count_before(rt: &HostRuntime, path: &str, number: u64) -> u64 {
-    match open_to_read(rt, path) {
+// How many records before a number the log of a folder has; none where it can't be read.
+fn count_before<S: SystemFiles>(alloc: Global, folder: &DiskFolder<S>, number: u64) -> u64 {
+    match LogReader::open(alloc, folder) {
         Ok(log) => number.min(log.end()).saturating_sub(log.first()),
         Err(_) => 0,
     }
@@ -64,13 +67,13 @@ fn count_before(rt: &HostRuntime, path: &str, number: u64) -> u64 {
 // Says which records went, and how many of those before a number stay.
 fn tell(
     rt: &HostRuntime,
-    path: &str,
     dropped: RecordSpan,
     number: u64,
+    staying: u64,
 ) -> Result<(), FailureCause> {
-    match count_before(rt, path, number) {
+    match staying {
         0 => eprintln!(rt; "dropped {dropped}")?,
-        staying => eprintln!(rt;
+        _ => eprintln!(rt;
             "dropped {dropped}; of those before {number} stay {staying}: {STAYING}"
         )?,
     }
@@ -79,14 +82,21 @@ fn tell(
 
 // Removes segments of the log at a path, and says what it did if that is seen. The log is not opened: its tail may be
 // torn or damaged, and the device full.
-fn drop_before(
+fn drop_before<S: SystemFiles>(
     rt: &HostRuntime,
+    system: S,
     path: &str,
     number: u64,
     is_seen: bool,
-) -> Result<(), FailureCause> {
-    let mut folder = folder_to_write(rt, path)?;
+) -> Result<(), FailureCause>
+    requires unchanged { IsTrue S.honest → (d : List ℕ) → S.changes system d ≡ [] }
+{
+    let mut folder = folder_to_write(rt, system, path)?;
     let dropped = segmented_log::drop_segments(rt.alloc(), &mut *folder, number);
+    let staying = match &dropped {
+        Ok(_) if is_seen => count_before(rt.alloc(), &*folder, number),
+        _ => 0,
+    };
     drop(folder);
     match dropped {
         Ok(gone) if is_seen => {
@@ -94,7 +104,7 @@ fn drop_before(
                 from: gone.start,
                 to: gone.end,
             };
-            tell(rt, path, dropped, number)
+            tell(rt, dropped, number, staying)
         }
         Ok(_) => Ok(()),
         Err(error) => Err(refused(error)),
@@ -102,10 +112,16 @@ fn drop_before(
 }
 
 /// Removes the segments.
-pub fn run(rt: &HostRuntime, matches: &ArgMatches<'_>) -> Result<(), Failure> {
+pub fn run<S: SystemFiles>(
+    rt: &HostRuntime,
+    system: S,
+    matches: &ArgMatches<'_>,
+) -> Result<(), Failure>
+    requires unchanged { IsTrue S.honest → (d : List ℕ) → S.changes system d ≡ [] }
+{
     let alloc = rt.alloc();
     let path = arguments::word(alloc, matches, FOLDER)?;
     let number = number_of(alloc, matches)?;
     let is_seen = is_seen(rt, matches);
-    with_file(alloc, path, drop_before(rt, path, number, is_seen))
+    with_file(alloc, path, drop_before(rt, system, path, number, is_seen))
 }

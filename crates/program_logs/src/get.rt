@@ -1,5 +1,7 @@
 //! `log get`: prints records by their numbers.
 
+ghost use Rattle.std.specs.Prelude.{◌≡◌, ℕ, List, [], IsTrue};
+
 use crate::number_range::NumberRange;
 use crate::read_log::{ReadLog, open_to_read};
 use crate::{FOLDER, folder};
@@ -11,6 +13,8 @@ use program_base::failure::{Failure, FailureCause, to_output, with_file};
 use program_base::listed_numbers::ListedNumbers;
 use std::alloc::{AllocError, Global};
 use std::io::Write;
+use std::rc::Rc;
+use store_files::SystemFiles;
 
 const EXAMPLE: &str = "\
 It takes no lock, so a writer may go on. It shows the log as it was when it was opened.
@@ -42,14 +46,14 @@ pub fn command<'a>(alloc: Global) -> Result<Command<'a>, AllocError> {
 
 // An opened log, and the output for its records.
 #[derive(Drop)]
-struct Printer<'a> {
+struct Printer<'a, S: SystemFiles> {
     alloc: Global,
-    read: ReadLog,
+    read: ReadLog<S>,
     output: DocumentOutput<'a>,
     form: DocumentForm,
 }
 
-impl<'a> Printer<'a> {
+impl<'a, S: SystemFiles> Printer<'a, S> {
     // Prints the records of a range.
     fn print(&mut self, range: NumberRange) -> Result<(), FailureCause> {
         for number in range.among(self.read.first(), self.read.end())? {
@@ -118,17 +122,20 @@ fn check_words(alloc: Global, words: &[&str]) -> Result<(), FailureCause> {
 }
 
 // Prints the records that words name, or those whose numbers are in the standard input.
-fn print(
+fn print<S: SystemFiles>(
     rt: &HostRuntime,
+    system: &Rc<S, Global>,
     path: &str,
     form: DocumentForm,
     words: &[&str],
-) -> Result<(), FailureCause> {
+) -> Result<(), FailureCause>
+    requires unchanged { IsTrue S.honest → (d : List ℕ) → S.changes system.now.value d ≡ [] }
+{
     let alloc = rt.alloc();
     check_words(alloc, words)?;
     let mut printer = Printer {
         alloc,
-        read: open_to_read(rt, path)?,
+        read: open_to_read(rt, system, path)?,
         output: standard_output(rt)?,
         form,
     };
@@ -137,10 +144,16 @@ fn print(
 }
 
 /// Prints the records.
-pub fn run(rt: &HostRuntime, matches: &ArgMatches<'_>) -> Result<(), Failure> {
+pub fn run<S: SystemFiles>(
+    rt: &HostRuntime,
+    system: &Rc<S, Global>,
+    matches: &ArgMatches<'_>,
+) -> Result<(), Failure>
+    requires unchanged { IsTrue S.honest → (d : List ℕ) → S.changes system.now.value d ≡ [] }
+{
     let alloc = rt.alloc();
     let path = arguments::word(alloc, matches, FOLDER)?;
     let form = form_of(alloc, matches)?;
     let words = matches.get_strs("NUMBER").unwrap_or(&[]);
-    with_file(alloc, path, print(rt, path, form, words))
+    with_file(alloc, path, print(rt, system, path, form, words))
 }

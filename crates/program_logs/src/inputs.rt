@@ -7,6 +7,7 @@ use program_base::failure::{Failure, with_file};
 use program_base::input_files::{buffered, open_input};
 use std::fs;
 use std::io::{BufRead, BufReader, IsTerminal, Read};
+use store_files::SystemFiles;
 
 // The name of the standard input in messages, and its path.
 const STANDARD_INPUT: &str = "standard input";
@@ -32,7 +33,7 @@ fn has_measured(buffer: &[u8]) -> bool {
     }
 }
 
-impl<'a> Appending<'a> {
+impl<'a, S: SystemFiles> Appending<'a, S> {
     // Appends the next record if the input has it whole in its buffer, without copying it, and returns whether it has.
     fn append_buffered<R: Read>(&mut self, input: &mut BufReader<R>) -> Result<bool, Failure> {
         let Some(end) = self.framing.end() else {

@@ -21,12 +21,16 @@ mod stat;
 mod sync_policy;
 mod verify;
 
+ghost use Rattle.std.specs.Prelude.{◌≡◌, ℕ, List, [], IsTrue};
+
 use clap::{ArgMatches, Command};
 use program_base::arguments::wrong_words;
 use program_base::command_words::{Argument, add};
 use program_base::failure::Failure;
 use std::alloc::{AllocError, Global};
 use std::io::IsTerminal;
+use std::rc::Rc;
+use store_files::SystemFiles;
 
 /// The name of the argument for the folder.
 const FOLDER: &str = "FOLDER";
@@ -82,21 +86,41 @@ fn is_seen(rt: &HostRuntime, matches: &ArgMatches<'_>) -> bool {
     !matches.get_flag("quiet") && rt.stderr().is_terminal()
 }
 
-/// Does what the words ask.
-pub fn run(rt: &HostRuntime, matches: &ArgMatches<'_>) -> Result<(), Failure> {
+// Does what the words ask of a command that only reads.
+fn read<S: SystemFiles>(
+    rt: &HostRuntime,
+    system: &Rc<S, Global>,
+    name: &str,
+    matches: &ArgMatches<'_>,
+) -> Result<(), Failure>
+    requires unchanged { IsTrue S.honest → (d : List ℕ) → S.changes system.now.value d ≡ [] }
+{
+    match name {
+        "get" => get::run(rt, system, matches),
+        "cat" => cat::run(rt, system, matches),
+        "stat" => stat::run(rt, system, matches),
+        "verify" => verify::run(rt, system, matches),
+        _ => Err(wrong_words(rt.alloc(), "unknown command", name)),
+    }
+}
+
+/// Does what the words ask. Nothing was changed through the system before.
+pub fn run<S: SystemFiles>(
+    rt: &HostRuntime,
+    system: S,
+    matches: &ArgMatches<'_>,
+) -> Result<(), Failure>
+    requires unchanged { IsTrue S.honest → (d : List ℕ) → S.changes system d ≡ [] }
+{
     let Some((name, matches)) = matches.subcommand() else {
         return Ok(());
     };
     match name {
-        "append" => append::run(rt, matches),
-        "get" => get::run(rt, matches),
-        "cat" => cat::run(rt, matches),
-        "stat" => stat::run(rt, matches),
-        "verify" => verify::run(rt, matches),
-        "repair" => repair::run(rt, matches),
-        "seal" => seal::run(rt, matches),
-        "compact" => compact::run(rt, matches),
-        "drop" => drop::run(rt, matches),
-        _ => Err(wrong_words(rt.alloc(), "unknown command", name)),
+        "append" => append::run(rt, system, matches),
+        "repair" => repair::run(rt, system, matches),
+        "seal" => seal::run(rt, system, matches),
+        "compact" => compact::run(rt, system, matches),
+        "drop" => drop::run(rt, system, matches),
+        _ => read(rt, &Rc::new(rt.alloc(), system)?, name, matches),
     }
 }

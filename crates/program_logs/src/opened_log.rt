@@ -5,7 +5,7 @@ use program_base::failure::FailureCause;
 use segmented_log::{Commit, SegmentedLog};
 use std::alloc::Global;
 use std::{fs, io};
-use store_files::{DiskFolder, HostFiles};
+use store_files::{DiskFolder, SystemFiles};
 use store_folder::Folder;
 
 /// How the tail of a log is written: how a sync puts records on the disk, and the size in bytes past which it is
@@ -16,13 +16,11 @@ pub struct TailOptions {
     pub seal_size: usize,
 }
 
-// A log on disk, in a box: a function that owns it moves and drops one value, and not all of its parts.
-type DiskLog = Box<SegmentedLog<DiskFolder<HostFiles>>>;
-
-/// A log that is open to be written.
+/// A log that is open to be written, in a box: a function that owns it moves and drops one value, and not all of its
+/// parts.
 #[derive(Drop)]
-pub struct OpenedLog {
-    log: DiskLog,
+pub struct OpenedLog<S: SystemFiles> {
+    log: Box<SegmentedLog<DiskFolder<S>>>,
 }
 
 // Whether a file of this name is one that was being published.
@@ -31,10 +29,10 @@ fn is_part(name: &str) -> bool {
 }
 
 // Removes what a call that failed left unpublished.
-fn remove_parts(
+fn remove_parts<S: SystemFiles>(
     rt: &HostRuntime,
     path: &str,
-    folder: &mut DiskFolder<HostFiles>,
+    folder: &mut DiskFolder<S>,
 ) -> io::Result<()> {
     for entry in fs::read_dir(rt, path)? {
         let entry = entry?;
@@ -45,13 +43,13 @@ fn remove_parts(
     Ok(())
 }
 
-impl OpenedLog {
+impl<S: SystemFiles> OpenedLog<S> {
     /// Opens the log in a folder.
     pub fn open(
         alloc: Global,
-        folder: DiskFolder<HostFiles>,
+        folder: DiskFolder<S>,
         tail: TailOptions,
-    ) -> Result<OpenedLog, FailureCause> {
+    ) -> Result<OpenedLog<S>, FailureCause> {
         match SegmentedLog::open(alloc, folder, tail.seal_size, tail.commit) {
             Ok(log) => Ok(OpenedLog {
                 log: Box::new(alloc, log)?,

@@ -1,5 +1,7 @@
 //! What is at the path of a log, and how it is opened.
 
+ghost use Rattle.std.specs.Prelude.{◌≡◌, ℕ, List, [], IsTrue};
+
 use crate::log_refusal::NO_TAIL;
 use crate::opened_log::{OpenedLog, TailOptions};
 use crate::segments::{reported, segment_numbers};
@@ -8,7 +10,7 @@ use segmented_log::{Commit, TAIL};
 use std::alloc::{AllocError, Global};
 use std::io::ErrorKind;
 use std::{fs, io};
-use store_files::{CreateError, DiskFolder, HostFiles};
+use store_files::{CreateError, DiskFolder, SystemFiles};
 
 // The tail of a log to which nothing is appended: it is not sealed for its size.
 const NOT_APPENDED: TailOptions = TailOptions {
@@ -89,10 +91,10 @@ fn check_place(rt: &HostRuntime, path: &str) -> Result<(), FailureCause> {
 }
 
 // The folder that a writer locked, in a box, or why it is not to be had.
-fn locked(
+fn locked<S: SystemFiles>(
     alloc: Global,
-    folder: Result<DiskFolder<HostFiles>, CreateError>,
-) -> Result<Box<DiskFolder<HostFiles>>, FailureCause> {
+    folder: Result<DiskFolder<S>, CreateError>,
+) -> Result<Box<DiskFolder<S>>, FailureCause> {
     match folder {
         Ok(folder) => Ok(Box::new(alloc, folder)?),
         Err(CreateError::Busy(_)) => Err(FailureCause::BusyLog),
@@ -101,12 +103,12 @@ fn locked(
 }
 
 // Opens a log through its lock. A batch at the end of its tail that was not finished, which is cut off, is reported.
-fn open_locked(
+fn open_locked<S: SystemFiles>(
     rt: &HostRuntime,
     path: &str,
-    folder: Box<DiskFolder<HostFiles>>,
+    folder: Box<DiskFolder<S>>,
     tail: TailOptions,
-) -> Result<OpenedLog, FailureCause> {
+) -> Result<OpenedLog<S>, FailureCause> {
     let before = tail_bytes(rt, path)?.unwrap_or(0);
     let log = OpenedLog::open(rt.alloc(), Box::into_inner(folder), tail)?;
     let cut = before.saturating_sub(tail_bytes(rt, path)?.unwrap_or(0));
@@ -120,29 +122,39 @@ fn open_locked(
 }
 
 /// Opens the log at a path to write it, or begins one there.
-pub fn open_or_begin(
+pub fn open_or_begin<S: SystemFiles>(
     rt: &HostRuntime,
+    system: S,
     path: &str,
     tail: TailOptions,
-) -> Result<OpenedLog, FailureCause> {
+) -> Result<OpenedLog<S>, FailureCause>
+    requires unchanged { IsTrue S.honest → (d : List ℕ) → S.changes system d ≡ [] }
+{
     check_place(rt, path)?;
-    let system = HostFiles::new(rt)?;
     let folder = locked(rt.alloc(), DiskFolder::create(rt.alloc(), system, path))?;
     open_locked(rt, path, folder, tail)
 }
 
 /// The folder of a log that is there, locked to write it.
-pub fn folder_to_write(
+pub fn folder_to_write<S: SystemFiles>(
     rt: &HostRuntime,
+    system: S,
     path: &str,
-) -> Result<Box<DiskFolder<HostFiles>>, FailureCause> {
+) -> Result<Box<DiskFolder<S>>, FailureCause>
+    requires unchanged { IsTrue S.honest → (d : List ℕ) → S.changes system d ≡ [] }
+{
     check_log(rt, path)?;
-    let system = HostFiles::new(rt)?;
     locked(rt.alloc(), DiskFolder::open(rt.alloc(), system, path))
 }
 
 /// Opens a log that is there, to write it.
-pub fn open_to_write(rt: &HostRuntime, path: &str) -> Result<OpenedLog, FailureCause> {
-    let folder = folder_to_write(rt, path)?;
+pub fn open_to_write<S: SystemFiles>(
+    rt: &HostRuntime,
+    system: S,
+    path: &str,
+) -> Result<OpenedLog<S>, FailureCause>
+    requires unchanged { IsTrue S.honest → (d : List ℕ) → S.changes system d ≡ [] }
+{
+    let folder = folder_to_write(rt, system, path)?;
     open_locked(rt, path, folder, NOT_APPENDED)
 }

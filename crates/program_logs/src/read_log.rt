@@ -1,5 +1,7 @@
 //! A log that is open to be read.
 
+ghost use Rattle.std.specs.Prelude.{◌≡◌, ℕ, List, [], IsTrue};
+
 use crate::log_refusal::refused;
 use crate::places::check_log;
 use crate::segments::segment_numbers;
@@ -7,19 +9,21 @@ use program_base::failure::FailureCause;
 use segmented_log::{LogError, LogReader};
 use std::alloc::Global;
 use std::io::ErrorKind;
-use store_files::{DiskFolder, HostFiles};
+use std::rc::Rc;
+use store_files::{DiskFolder, SystemFiles};
 
 // How often an opening or a read is tried: a writer may change the log's segments meanwhile.
 const TRIES: usize = 1000;
 
-// The reader of a log on disk, in a box: a function that owns it moves and drops one value, and not all of its parts.
-type DiskReader = Box<LogReader<DiskFolder<HostFiles>>>;
+// The folder of a log, which is only read.
+type ReadFolder<S> = DiskFolder<Rc<S, Global>>;
 
-/// A log that is open to be read, as it was when it was opened first.
+/// A log that is open to be read, as it was when it was opened first. Its parts are in boxes: a function that owns it
+/// moves and drops three values, and not all of theirs.
 #[derive(Drop)]
-pub struct ReadLog {
-    folder: Box<DiskFolder<HostFiles>>,
-    log: DiskReader,
+pub struct ReadLog<S: SystemFiles> {
+    folder: Box<ReadFolder<S>>,
+    log: Box<LogReader<ReadFolder<S>>>,
     end: u64,
 }
 
@@ -34,7 +38,10 @@ fn unless_changed(error: LogError) -> Result<(), FailureCause> {
 }
 
 // Opens the log of a folder.
-fn open(alloc: Global, folder: &DiskFolder<HostFiles>) -> Result<DiskReader, FailureCause> {
+fn open<S: SystemFiles>(
+    alloc: Global,
+    folder: &ReadFolder<S>,
+) -> Result<Box<LogReader<ReadFolder<S>>>, FailureCause> {
     for _ in 0..TRIES {
         match LogReader::open(alloc, folder) {
             Ok(log) => return Ok(Box::new(alloc, log)?),
@@ -46,18 +53,24 @@ fn open(alloc: Global, folder: &DiskFolder<HostFiles>) -> Result<DiskReader, Fai
 
 /// Opens a log that is there, to read it. Nothing is changed, and a writer may go on. Of a log whose tail is damaged it
 /// has the records before the damage.
-pub fn open_to_read(rt: &HostRuntime, path: &str) -> Result<ReadLog, FailureCause> {
+pub fn open_to_read<S: SystemFiles>(
+    rt: &HostRuntime,
+    system: &Rc<S, Global>,
+    path: &str,
+) -> Result<ReadLog<S>, FailureCause>
+    requires unchanged { IsTrue S.honest → (d : List ℕ) → S.changes system.now.value d ≡ [] }
+{
     check_log(rt, path)?;
     let _plain = segment_numbers(rt, path)?;
     let alloc = rt.alloc();
-    let folder = DiskFolder::open_to_read(alloc, HostFiles::new(rt)?, path)?;
+    let folder = DiskFolder::open_to_read(alloc, system.clone()?, path)?;
     let folder = Box::new(alloc, folder)?;
     let log = open(alloc, &folder)?;
     let end = log.end();
     Ok(ReadLog { folder, log, end })
 }
 
-impl ReadLog {
+impl<S: SystemFiles> ReadLog<S> {
     /// The number of the first record.
     pub fn first(&self) -> u64 {
         self.log.first()

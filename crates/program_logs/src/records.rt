@@ -10,16 +10,17 @@ use program_base::failure::{Failure, FailureCause, to_output, with_file};
 use program_base::input_files::framing_bytes;
 use program_base::progress::Progress;
 use std::io::Write;
+use store_files::SystemFiles;
 
 // How many bytes the records of a batch take before it is synced.
 const BATCH_BYTES: u64 = 1 << 20;
 
 /// A log to which the records of inputs are appended.
 #[derive(Drop)]
-pub struct Appending<'a> {
+pub struct Appending<'a, S: SystemFiles> {
     pub rt: &'a HostRuntime,
     pub path: &'a str,
-    pub log: OpenedLog,
+    pub log: OpenedLog<S>,
     pub policy: SyncPolicy,
     pub framing: Framing,
     pub expected: ExpectedCount,
@@ -33,7 +34,7 @@ pub struct Appending<'a> {
     pub waiting: u64,
 }
 
-impl<'a> Appending<'a> {
+impl<'a, S: SystemFiles> Appending<'a, S> {
     // Prints the numbers from this one to before that one.
     fn print_numbers(&mut self, from: u64, to: u64) -> Result<(), FailureCause> {
         let Some(output) = &mut self.numbers else {

@@ -1,5 +1,7 @@
 //! `log repair`: cuts off the end of a damaged tail, and keeps it.
 
+ghost use Rattle.std.specs.Prelude.{◌≡◌, ℕ, List, [], IsTrue};
+
 use crate::log_refusal::refused;
 use crate::places::{file_in, folder_to_write};
 use crate::{FOLDER, folder};
@@ -9,6 +11,7 @@ use program_base::command_words::command_of;
 use program_base::failure::{Failure, FailureCause, to_output, with_file};
 use std::alloc::{AllocError, Global};
 use std::fs;
+use store_files::SystemFiles;
 
 const EXAMPLE: &str = "\
 Only this command cuts off bytes that were written whole and have changed: 'append', 'seal' and 'compact' refuse such a
@@ -40,8 +43,10 @@ fn tell(rt: &HostRuntime, path: &str, name: &str) -> Result<(), FailureCause> {
 }
 
 // Repairs the log at a path.
-fn repair(rt: &HostRuntime, path: &str) -> Result<(), FailureCause> {
-    let mut folder = folder_to_write(rt, path)?;
+fn repair<S: SystemFiles>(rt: &HostRuntime, system: S, path: &str) -> Result<(), FailureCause>
+    requires unchanged { IsTrue S.honest → (d : List ℕ) → S.changes system d ≡ [] }
+{
+    let mut folder = folder_to_write(rt, system, path)?;
     let cut = segmented_log::repair(rt.alloc(), &mut *folder);
     drop(folder);
     match cut {
@@ -52,8 +57,14 @@ fn repair(rt: &HostRuntime, path: &str) -> Result<(), FailureCause> {
 }
 
 /// Repairs the log.
-pub fn run(rt: &HostRuntime, matches: &ArgMatches<'_>) -> Result<(), Failure> {
+pub fn run<S: SystemFiles>(
+    rt: &HostRuntime,
+    system: S,
+    matches: &ArgMatches<'_>,
+) -> Result<(), Failure>
+    requires unchanged { IsTrue S.honest → (d : List ℕ) → S.changes system d ≡ [] }
+{
     let alloc = rt.alloc();
     let path = arguments::word(alloc, matches, FOLDER)?;
-    with_file(alloc, path, repair(rt, path))
+    with_file(alloc, path, repair(rt, system, path))
 }

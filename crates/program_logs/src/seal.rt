@@ -1,5 +1,7 @@
 //! `log seal`: puts the tail's records into a segment.
 
+ghost use Rattle.std.specs.Prelude.{◌≡◌, ℕ, List, [], IsTrue};
+
 use crate::places::open_to_write;
 use crate::record_span::RecordSpan;
 use crate::segments::segment_numbers;
@@ -10,6 +12,7 @@ use program_base::command_words::command_of;
 use program_base::failure::{Failure, FailureCause, with_file};
 use segmented_log::segment_file;
 use std::alloc::{AllocError, Global};
+use store_files::SystemFiles;
 
 const EXAMPLE: &str = "\
 'append' seals a tail by itself once it is large. The records and their numbers stay. Other commands read the segment,
@@ -46,8 +49,15 @@ fn tell(rt: &HostRuntime, path: &str, before: usize, end: u64) -> Result<(), Fai
 }
 
 // Seals the log at a path, and says what it did if that is seen.
-fn seal(rt: &HostRuntime, path: &str, is_seen: bool) -> Result<(), FailureCause> {
-    let mut log = open_to_write(rt, path)?;
+fn seal<S: SystemFiles>(
+    rt: &HostRuntime,
+    system: S,
+    path: &str,
+    is_seen: bool,
+) -> Result<(), FailureCause>
+    requires unchanged { IsTrue S.honest → (d : List ℕ) → S.changes system d ≡ [] }
+{
+    let mut log = open_to_write(rt, system, path)?;
     let before = segment_numbers(rt, path)?.len();
     let sealed = log.seal();
     let end = log.end();
@@ -60,9 +70,15 @@ fn seal(rt: &HostRuntime, path: &str, is_seen: bool) -> Result<(), FailureCause>
 }
 
 /// Seals the log.
-pub fn run(rt: &HostRuntime, matches: &ArgMatches<'_>) -> Result<(), Failure> {
+pub fn run<S: SystemFiles>(
+    rt: &HostRuntime,
+    system: S,
+    matches: &ArgMatches<'_>,
+) -> Result<(), Failure>
+    requires unchanged { IsTrue S.honest → (d : List ℕ) → S.changes system d ≡ [] }
+{
     let alloc = rt.alloc();
     let path = arguments::word(alloc, matches, FOLDER)?;
     let is_seen = is_seen(rt, matches);
-    with_file(alloc, path, seal(rt, path, is_seen))
+    with_file(alloc, path, seal(rt, system, path, is_seen))
 }

@@ -1,5 +1,7 @@
 //! `log stat`: prints counts and sizes of logs.
 
+ghost use Rattle.std.specs.Prelude.{◌≡◌, ℕ, List, [], IsTrue};
+
 use crate::FOLDER;
 use crate::places::{file_in, tail_bytes};
 use crate::read_log::{ReadLog, open_to_read};
@@ -12,6 +14,8 @@ use program_base::named_numbers::{NamedNumber, print_lines, print_object};
 use segmented_log::segment_file;
 use std::alloc::{AllocError, Global};
 use std::fs;
+use std::rc::Rc;
+use store_files::SystemFiles;
 
 const EXAMPLE: &str = "\
 Example:
@@ -61,7 +65,11 @@ fn bytes_of_segments(rt: &HostRuntime, path: &str, segments: &[u64]) -> Result<u
 
 impl LogNumbers {
     // Of the log at a path, which is open.
-    fn of(rt: &HostRuntime, path: &str, log: &ReadLog) -> Result<LogNumbers, FailureCause> {
+    fn of<S: SystemFiles>(
+        rt: &HostRuntime,
+        path: &str,
+        log: &ReadLog<S>,
+    ) -> Result<LogNumbers, FailureCause> {
         let segments = segment_numbers(rt, path)?;
         Ok(LogNumbers {
             first: log.first(),
@@ -91,8 +99,15 @@ impl LogNumbers {
 }
 
 // Prints the numbers of a log, in lines or as JSON.
-fn print(rt: &HostRuntime, path: &str, is_json: bool) -> Result<(), FailureCause> {
-    let read = open_to_read(rt, path)?;
+fn print<S: SystemFiles>(
+    rt: &HostRuntime,
+    system: &Rc<S, Global>,
+    path: &str,
+    is_json: bool,
+) -> Result<(), FailureCause>
+    requires unchanged { IsTrue S.honest → (d : List ℕ) → S.changes system.now.value d ≡ [] }
+{
+    let read = open_to_read(rt, system, path)?;
     let numbers = LogNumbers::of(rt, path, &read)?.named();
     if is_json {
         print_object(rt, "folder", path, &numbers)?;
@@ -104,11 +119,17 @@ fn print(rt: &HostRuntime, path: &str, is_json: bool) -> Result<(), FailureCause
 }
 
 /// Prints the numbers of each log. It goes on after one that can't be read, and fails at the end.
-pub fn run(rt: &HostRuntime, matches: &ArgMatches<'_>) -> Result<(), Failure> {
+pub fn run<S: SystemFiles>(
+    rt: &HostRuntime,
+    system: &Rc<S, Global>,
+    matches: &ArgMatches<'_>,
+) -> Result<(), Failure>
+    requires unchanged { IsTrue S.honest → (d : List ℕ) → S.changes system.now.value d ≡ [] }
+{
     let is_json = matches.get_flag("json");
     let mut findings = Findings::new();
     for path in matches.get_strs(FOLDER).unwrap_or(&[]) {
-        if let Err(cause) = print(rt, path, is_json) {
+        if let Err(cause) = print(rt, system, path, is_json) {
             findings.add_failed(rt, path, cause)?;
         }
     }

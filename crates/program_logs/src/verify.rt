@@ -1,5 +1,7 @@
 //! `log verify`: reads logs whole, and reports what is broken.
 
+ghost use Rattle.std.specs.Prelude.{◌≡◌, ℕ, List, [], IsTrue};
+
 use crate::FOLDER;
 use crate::places::{check_log, file_in};
 use crate::read_log::open_to_read;
@@ -16,8 +18,9 @@ use program_base::verify_output::ReportForm;
 use segmented_log::{TAIL, segment_file};
 use std::alloc::{AllocError, Global};
 use std::fmt::Display;
+use std::rc::Rc;
 use std::{fmt, fs};
-use store_files::{HostFiles, is_left_synced};
+use store_files::{SystemFiles, is_left_synced};
 
 const EXAMPLE: &str = "\
 Checks each segment as a store, the batches of the tail by their sums, and that no number is missing between them. Bytes
@@ -161,10 +164,16 @@ fn fault_in(alloc: Global, bytes: &[u8], is_synced: bool) -> Result<Option<TailF
 }
 
 // Whether the tail of a log is whole to its end. What is wrong is reported.
-fn check_tail(rt: &HostRuntime, folder: &str) -> Result<bool, FailureCause> {
+fn check_tail<S: SystemFiles>(
+    rt: &HostRuntime,
+    system: &Rc<S, Global>,
+    folder: &str,
+) -> Result<bool, FailureCause>
+    requires unchanged { IsTrue S.honest → (d : List ℕ) → S.changes system.now.value d ≡ [] }
+{
     let path = file_in(rt.alloc(), folder, TAIL)?;
     let bytes = fs::read(rt, path.as_str())?;
-    let is_synced = is_left_synced(&HostFiles::new(rt)?, rt.alloc(), folder, TAIL).unwrap_or(false);
+    let is_synced = is_left_synced(&**system, rt.alloc(), folder, TAIL).unwrap_or(false);
     let fault = fault_in(rt.alloc(), &bytes, is_synced)?;
     drop(bytes);
     let Some(fault) = fault else {
@@ -175,13 +184,16 @@ fn check_tail(rt: &HostRuntime, folder: &str) -> Result<bool, FailureCause> {
 }
 
 // That the numbers of a log's parts are in line is shown by opening it.
-fn print_whole(
+fn print_whole<S: SystemFiles>(
     rt: &HostRuntime,
+    system: &Rc<S, Global>,
     path: &str,
     segments: usize,
     is_quiet: bool,
-) -> Result<(), FailureCause> {
-    let read = open_to_read(rt, path)?;
+) -> Result<(), FailureCause>
+    requires unchanged { IsTrue S.honest → (d : List ℕ) → S.changes system.now.value d ≡ [] }
+{
+    let read = open_to_read(rt, system, path)?;
     if is_quiet {
         return Ok(());
     }
@@ -194,24 +206,37 @@ fn print_whole(
 }
 
 // Prints what is found in a log, and returns whether it is sound.
-fn verify(rt: &HostRuntime, path: &str, is_quiet: bool) -> Result<bool, FailureCause> {
+fn verify<S: SystemFiles>(
+    rt: &HostRuntime,
+    system: &Rc<S, Global>,
+    path: &str,
+    is_quiet: bool,
+) -> Result<bool, FailureCause>
+    requires unchanged { IsTrue S.honest → (d : List ℕ) → S.changes system.now.value d ≡ [] }
+{
     check_log(rt, path)?;
     let segments = segment_numbers(rt, path)?;
     let are_sound = check_segments(rt, path, &segments, is_quiet)?;
-    let is_whole = check_tail(rt, path)?;
+    let is_whole = check_tail(rt, system, path)?;
     if !(are_sound && is_whole) {
         return Ok(false);
     }
-    print_whole(rt, path, segments.len(), is_quiet)?;
+    print_whole(rt, system, path, segments.len(), is_quiet)?;
     Ok(true)
 }
 
 /// Prints what is found in each log. It goes on after one that can't be read, and fails at the end.
-pub fn run(rt: &HostRuntime, matches: &ArgMatches<'_>) -> Result<(), Failure> {
+pub fn run<S: SystemFiles>(
+    rt: &HostRuntime,
+    system: &Rc<S, Global>,
+    matches: &ArgMatches<'_>,
+) -> Result<(), Failure>
+    requires unchanged { IsTrue S.honest → (d : List ℕ) → S.changes system.now.value d ≡ [] }
+{
     let is_quiet = matches.get_flag("quiet");
     let mut findings = Findings::new();
     for path in matches.get_strs(FOLDER).unwrap_or(&[]) {
-        match verify(rt, path, is_quiet) {
+        match verify(rt, system, path, is_quiet) {
             Ok(true) => (),
             Ok(false) => findings.add(Status::Broken),
             Err(cause) => findings.add_failed(rt, path, cause)?,

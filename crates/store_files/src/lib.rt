@@ -10,7 +10,6 @@ pub mod file_pool;
 pub mod host;
 pub mod knowledge;
 pub mod laws;
-pub mod lent;
 pub mod loading;
 pub mod lock_mark;
 mod locking;
@@ -21,6 +20,7 @@ pub mod output_folder;
 mod paths;
 pub mod read_at;
 mod reading;
+mod shared;
 pub mod system_files;
 mod writing;
 

@@ -1,4 +1,4 @@
-//! A system that is lent to be read.
+//! A system that is shared to be read.
 
 ghost use Rattle.std.specs.Prelude.{IsErr};
 
@@ -8,8 +8,9 @@ use std::alloc::Global;
 use std::fs::TryLockError;
 use std::io;
 use std::io::ErrorKind;
+use std::rc::Rc;
 
-// Refuses to change a system that is lent.
+// Refuses to change a system that is shared.
 fn refuse<T: Drop>() -> io::Result<T>
     ensures { IsErr result }
 {
@@ -18,7 +19,7 @@ fn refuse<T: Drop>() -> io::Result<T>
 
 /// Each call that reads is the system's own; each that would change a file is refused, as `PermissionDenied`. So any
 /// number of folders can be open over it to be read.
-impl<S: SystemFiles> SystemFiles for &S {
+impl<S: SystemFiles> SystemFiles for Rc<S, Global> {
     ghost use Rattle.std.specs.Prelude.{◌≡◌};
 
     type File = S::File;
@@ -29,7 +30,7 @@ impl<S: SystemFiles> SystemFiles for &S {
 
     ghost start = { S.start };
 
-    ghost changes = { λ s. S.changes s.now };
+    ghost changes = { λ s. S.changes s.value };
 
     ghost opened_as = { S.opened_as };
 
@@ -41,11 +42,11 @@ impl<S: SystemFiles> SystemFiles for &S {
 
     ghost place = { S.place };
 
-    ghost claims = { λ s. S.claims s.now };
+    ghost claims = { λ s. S.claims s.value };
 
-    ghost was_so = { λ s. S.was_so s.now };
+    ghost was_so = { λ s. S.was_so s.value };
 
-    ghost sound = { λ s. S.sound s.now };
+    ghost sound = { λ s. S.sound s.value };
 
     fn make_folder(&self, _path: &str) -> io::Result<()> {
         refuse()

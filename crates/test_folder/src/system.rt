@@ -7,6 +7,7 @@ use std::alloc::Global;
 use std::fs::TryLockError;
 use std::io;
 use std::io::ErrorKind;
+use std::rc::Rc;
 use std::test::Fail;
 use store_files::{DiskFolder, SystemFiles};
 use store_folder::{Folder, ReadableFolder};
@@ -117,22 +118,23 @@ fn a_folder_in_memory_is_changed_by_its_writer_alone(rt: HostRuntime) -> Result<
     Ok(())
 }
 
-// Whether two folders are open over one system that is lent, and neither they nor the system itself change it.
-fn is_only_read(alloc: Global, system: &MemSystem) -> Result<bool, Fail>
-    requires { (d : List ℕ) → changes_in system.now d ≡ [] }
+// Whether two folders are open over one system that is shared, and neither they nor the system itself change it.
+fn is_only_read(alloc: Global, mut system: Rc<MemSystem, Global>) -> Result<bool, Fail>
+    requires { (d : List ℕ) → changes_in system.value d ≡ [] }
 {
-    let first = DiskFolder::open_to_read(alloc, system, "f")?;
+    let first = DiskFolder::open_to_read(alloc, system.clone()?, "f")?;
     let mut first = Box::new(alloc, first)?;
-    let second = Box::new(alloc, DiskFolder::open_to_read(alloc, system, "f")?)?;
-    let mut lent = system;
-    let is_refused = first.create("a").is_err() && lent.create("f/a").is_err();
+    let second = DiskFolder::open_to_read(alloc, system.clone()?, "f")?;
+    let second = Box::new(alloc, second)?;
+    let is_refused = first.create("a").is_err() && SystemFiles::create(&mut system, "f/a").is_err();
     Ok(is_refused && first.names(alloc)?.is_empty() && second.read(alloc, "a")?.is_none())
 }
 
 #[test]
-fn a_system_that_is_lent_is_only_read(rt: HostRuntime) -> Result<(), Fail> {
-    let system = MemSystem::new(rt.alloc(), "f")?;
-    assert!(rt; is_only_read(rt.alloc(), &system)?);
+fn a_system_that_is_shared_is_only_read(rt: HostRuntime) -> Result<(), Fail> {
+    let alloc = rt.alloc();
+    let system = Rc::new(alloc, MemSystem::new(alloc, "f")?)?;
+    assert!(rt; is_only_read(alloc, system)?);
     Ok(())
 }
 

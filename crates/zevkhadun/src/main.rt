@@ -7,6 +7,8 @@
 mod descriptors;
 mod words;
 
+ghost use Rattle.std.specs.Prelude.{◌≡◌, ℕ, List, [], IsTrue};
+
 use clap::{ArgMatches, Error};
 use descriptors::hold_closed;
 use program_base::arguments::wrong_words;
@@ -16,11 +18,9 @@ use std::process::ExitCode;
 use store_files::{HostFiles, SystemFiles};
 
 // Does what the words ask. A subcommand and the arguments that it requires are there, since clap has seen to it.
-fn run<S: SystemFiles>(
-    rt: &HostRuntime,
-    system: S,
-    matches: &ArgMatches<'_>,
-) -> Result<(), Failure> {
+fn run<S: SystemFiles>(rt: &HostRuntime, system: S, matches: &ArgMatches<'_>) -> Result<(), Failure>
+    requires unchanged { IsTrue S.honest → (d : List ℕ) → S.changes system d ≡ [] }
+{
     let Some((name, matches)) = matches.subcommand() else {
         return Ok(());
     };
@@ -34,7 +34,7 @@ fn run<S: SystemFiles>(
         "merge" => merge::run(rt, system, matches),
         "export" => export::run(rt, system, matches),
         "inspect" => inspect::run(rt, system, matches),
-        "log" => program_logs::run(rt, matches),
+        "log" => program_logs::run(rt, system, matches),
         _ => Err(wrong_words(rt.alloc(), "unknown command", name)),
     }
 }
