@@ -74,8 +74,8 @@ typedef struct zevk_document {
  * that it needs: in a damaged file it may give the bytes of something else, which lie in the file all the same. */
 #define ZEVK_FILE_UNCHECKED 1u
 
-/* A flag of zevk_file_open: the gets will be far apart, in a file of which little is in memory. The system then reads no
- * pages ahead, and zevk_file_get asks it for the two pages that it needs at once, and doesn't wait for one after the
+/* A flag of zevk_file_open: the gets will be far apart, in a file of which little is in memory. The system then reads
+ * no pages ahead, and zevk_file_get asks it for the two pages that it needs at once, and doesn't wait for one after the
  * other. Leave it out for a file that is in memory, since each get then asks the system for nothing. */
 #define ZEVK_FILE_SCATTERED 4u
 

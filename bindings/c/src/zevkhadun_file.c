@@ -195,8 +195,9 @@ static void ask_for(const zevk_file *file, size_t at) {
     (void)posix_madvise((void *)(file->bytes + start), file->page, POSIX_MADV_WILLNEED);
 }
 
-/* Asks for the pages of a get at once: that of the document's entry in the table of its block, and the one in which the
- * document begins if those of the block have one length. It stays out of the gets that don't ask, which it would slow. */
+/* Asks for the pages of a get at once: that of the document's entry in the table of its block, and the one in which
+ * the document begins if those of the block have one length. It stays out of the gets that don't ask, which it would
+ * slow. */
 __attribute__((cold, noinline)) static void ask_for_both(const zevk_file *file, uint32_t doc_id) {
     zevk_block_place block;
     size_t wanted;
@@ -205,7 +206,8 @@ __attribute__((cold, noinline)) static void ask_for_both(const zevk_file *file, 
     }
     size_t documents = block.end_doc - block.first_doc, before = doc_id - block.first_doc;
     size_t table_len = 4 * (documents + 1);
-    if (before >= documents || block.len < table_len || block.start > file->len || file->len - block.start < block.len) {
+    int is_inside = block.start <= file->len && block.len <= file->len - block.start;
+    if (!is_inside || block.len < table_len || before >= documents) {
         return;
     }
     size_t table = block.start + block.len - table_len;

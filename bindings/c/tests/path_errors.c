@@ -62,7 +62,8 @@ static void opens_as_in_memory(const uint8_t *bytes, size_t len) {
     WANT(file == NULL || zevk_file_num_docs(file) == num_docs);
     zevk_file_close(file);
     file = NULL;
-    WANT(zevk_file_open("changed", ZEVK_FILE_SCATTERED, &file) == (int)zevk_open(copy, len, table, 2, &count, &num_docs));
+    uint32_t opened = zevk_open(copy, len, table, 2, &count, &num_docs);
+    WANT(zevk_file_open("changed", ZEVK_FILE_SCATTERED, &file) == (int)opened);
     WANT(file == NULL || zevk_file_num_docs(file) == num_docs);
     zevk_file_close(file);
     file = NULL;
