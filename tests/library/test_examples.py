@@ -62,6 +62,12 @@ class Examples(ExampleCase):
         done = self.run_example(self.example("first.c"), "1", input=TWO)
         self.assertEqual((done.returncode, done.stdout), (0, b"de"), done.stderr)
 
+    def test_the_example_of_an_outline_prints_documents(self):
+        program = self.example("outline.c")
+        done = self.run_example(program, "1", "0", input=TWO)
+        self.assertEqual((done.returncode, done.stdout), (0, b"deabc"), done.stderr)
+        self.assertNotEqual(self.run_example(program, "2", input=TWO).returncode, 0, "no document")
+
     def test_the_example_fails_where_it_cannot_print(self):
         """To a full disk, of a file that is no store, and of one that isn't there."""
         program = self.example("example.c")

@@ -14,9 +14,9 @@ from harness import TOP
 from library.compiling import ARRAYS, HEADER
 
 # How C spells what a parameter of Rattle is, by the name of the parameter.
-NUMBERS = {"u8": "uint8_t", "u32": "uint32_t", "usize": "size_t"}
+NUMBERS = {"u8": "uint8_t", "u32": "uint32_t", "DocId": "uint32_t", "usize": "size_t"}
 STRUCTS = {
-    "Block": "zevk_block",
+    "Row": "zevk_block",
     "BlockPlace": "zevk_block_place",
     "Fault": "zevk_fault",
     "Place": "zevk_place",
@@ -88,7 +88,8 @@ class Header(unittest.TestCase):
     def setUp(self):
         self.header = HEADER.read_text()
         folder = TOP / "crates/store_c/src"
-        self.source = "\n".join(path.read_text() for path in sorted(folder.glob("*.rt")))
+        sources = [*sorted(folder.glob("*.rt")), TOP / "crates/layered_index/src/row.rt"]
+        self.source = "\n".join(path.read_text() for path in sources)
         self.errors = (TOP / "crates/store_base/src/error.rt").read_text()
 
     def assert_alike(self, in_header, in_crate):

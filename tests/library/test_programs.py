@@ -4,7 +4,7 @@ import subprocess
 
 from library.compiling import ARRAYS, COMPILERS, HEX, SOURCES, WARNINGS, CompilerCase, names_in, prefix, wrapped
 
-PROGRAMS = ("stress.c", "writing.c", "nulls.c", "getting.c", "ranges.c", "checking.c")
+PROGRAMS = ("stress.c", "writing.c", "nulls.c", "getting.c", "outlines.c", "ranges.c", "checking.c")
 
 
 class ByGcc(CompilerCase):

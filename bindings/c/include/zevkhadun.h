@@ -16,6 +16,7 @@
  *
  * - A document, or some in a row: zevk_get, zevk_get_run, zevk_num_docs. Nothing is opened.
  * - Many documents of one store: zevk_open fills a table in your memory; zevk_locate and zevk_locate_run read by it.
+ *   With less memory: zevk_outline fills as many rows as there is room for; zevk_get_by reads by them.
  * - A store in object storage or on a web server: zevk_block_of and zevk_get_in, by reads of ranges of the file.
  * - Whether a file is sound, and where it is not: zevk_check.
  * - A new store: from zevk_writer_begin to zevk_writer_close. You write the file.
@@ -111,7 +112,7 @@ uint32_t zevk_num_docs(const uint8_t *file, size_t file_len, uint32_t *num_docs)
  * A store that is asked often is opened once. Its table has a row for each block; a get looks at a few of them. */
 
 /* A row of a table: where a block of documents ends. A block begins where the one before it ends. `guide` makes gets
- * quick: zevk_open sets it, and no answer depends on it, so it may hold anything. */
+ * quick: zevk_open and zevk_outline set it, and no answer depends on it, so it may hold anything. */
 typedef struct zevk_block {
     uint32_t end_doc;  /* one more than the number of its last document */
     uint32_t guide;    /* about how many blocks end before a part of the documents, or 0 */
@@ -139,6 +140,30 @@ uint32_t zevk_locate(const uint8_t *file, size_t file_len, const zevk_block *tab
  * Errors: those of zevk_locate. `count` and the places before it are set in any case. */
 uint32_t zevk_locate_run(const uint8_t *file, size_t file_len, const zevk_block *table, size_t table_len,
                          uint32_t first, zevk_place *places, size_t places_len, size_t *count);
+
+/* ---- reading by an outline
+ *
+ * The rows of a table are those of the lowest layer of the index. An outline has those of a higher one, each for up to
+ * a period of rows of the layer below it, or none: a get looks at a few of its rows, and then reads a part of each
+ * layer below. So it takes as much memory as there is, and the more it has, the less time a get takes. A table is the
+ * outline with the height 0. */
+
+/* Fills the front of `rows` with those of the lowest layer of the index that has no more than `rows_len`, and sets
+ * `count` to how many these are and `height` to how many layers lie below that layer. If each layer has more, `count`
+ * is 0 and `height` the number of layers. It takes the time of reading these rows, and leaves the others. zevk_get_by
+ * takes the first `count` rows and the height.
+ *
+ * Errors: the file errors. */
+uint32_t zevk_outline(const uint8_t *file, size_t file_len, zevk_block *rows, size_t rows_len, size_t *count,
+                      size_t *height);
+
+/* Sets `place` to where a document lies in the file, as zevk_get does, by the rows and the height of the outline of
+ * these bytes. It takes no memory. With other rows the call is safe: a place lies within the bytes, but it may be that
+ * of anything.
+ *
+ * Errors: those of zevk_get; BAD_INDEX also if the rows or the height are not those of the file. */
+uint32_t zevk_get_by(const uint8_t *file, size_t file_len, const zevk_block *rows, size_t rows_len, size_t height,
+                     uint32_t doc_id, zevk_place *place);
 
 /* ---- reading a file that lies elsewhere
  *

@@ -38,6 +38,8 @@ static inline void is_the_same(const opened *store, uint32_t id) {
     uint32_t error = zevk_get(store->file, store->len, id, &place);
     WANT(error == zevk_locate(store->file, store->len, store->table, store->count, id, &other));
     WANT(place.start == other.start && place.len == other.len);
+    WANT(error == zevk_get_by(store->file, store->len, store->table, store->count, 0, id, &other));
+    WANT(place.start == other.start && place.len == other.len);
     memset(run, 7, sizeof run);
     memset(others, 7, sizeof others);
     error = zevk_get_run(store->file, store->len, id, run, RUN, &found);

@@ -4,8 +4,10 @@
  */
 #include "stores.h"
 
-/* The bytes of the file of a store without documents. */
-enum { EMPTY_LEN = 29 };
+/* The bytes of the file of a store without documents, and how many layers the index of the 13 blocks has at its period
+ * of 3.
+ */
+enum { EMPTY_LEN = 29, LAYERS = 3 };
 
 static void texts(void) {
     uint8_t text[ZEVK_TEXT_LEN];
@@ -27,6 +29,18 @@ static void getting(const uint8_t *file, size_t len) {
     WANT(zevk_get_run(NULL, 0, 0, &place, 1, &found) == ZEVK_SHORT_FILE && found == 0 && place.start == 1);
     found = 78;
     WANT(zevk_get_run(file, len, 1, NULL, 0, &found) == ZEVK_DONE && found == 0);
+}
+
+static void outlining(const uint8_t *file, size_t len) {
+    zevk_block row = {1, 2, 3};
+    zevk_place place = {1, 2};
+    size_t count = 77, height = 78;
+    WANT(zevk_outline(NULL, 0, NULL, 0, &count, &height) == ZEVK_SHORT_FILE && count == 77 && height == 78);
+    WANT(zevk_outline(NULL, 0, &row, 1, &count, &height) == ZEVK_SHORT_FILE && row.end_doc == 1);
+    WANT(zevk_get_by(NULL, 0, NULL, 0, 0, 0, &place) == ZEVK_SHORT_FILE);
+    WANT(zevk_get_by(NULL, 0, &row, 1, 0, 0, &place) == ZEVK_SHORT_FILE && place.start == 1 && place.len == 2);
+    WANT(zevk_outline(file, len, NULL, 0, &count, &height) == ZEVK_DONE && count == 0 && height == LAYERS);
+    WANT(zevk_get_by(file, len, NULL, 0, height, 1, &place) == ZEVK_DONE && is_document(file, len, place, 1));
 }
 
 static void ranges(size_t len) {
@@ -109,6 +123,7 @@ int main(int argc, char **argv) {
     uint8_t *file = loaded(argc, argv, &len);
     texts();
     getting(file, len);
+    outlining(file, len);
     ranges(len);
     reading(file, len);
     empty_store();

@@ -13,7 +13,8 @@ pub mod writer;
 pub use close_error::CloseError;
 pub use layered_index::{
     CHECKPOINT_PERIOD, Checkpoint, CheckpointBlock, CheckpointRange, IndexFault, IndexSlice,
-    LayerCursor, Looks, SkipIndex, SkipIndexBuilder, Steps, USUAL_PERIOD, seek_near, seek_over,
+    LayerCursor, Looks, LowerLayers, Outline, Row, SkipIndex, SkipIndexBuilder, Steps,
+    USUAL_PERIOD, seek_near, seek_over,
 };
 pub use run::{StoreCommand, WriteReport, write_store, write_store_with_period};
 pub use store_base::{

@@ -57,7 +57,7 @@ leads_down period target (suc k) bottom cs run us two small some few h all none 
     (few_above period (period ^ suc k) cs one (omega (arith, few, pow-suc period (suc k))))
     (layer_above_is_in_line period cs one small h all.0) all.1 (λ e. none (none_pointed period target cs one h e)) (λ q p a f. (cs, h, refl, f, none, λ c e. found (Some p) c f e)))
 
-leads_all : (period target count : ℕ) (cs : List Checkpoint) (run : List ℕ) → 2 ≤ period → period ≤ 64 → IsInLine cs → digit_count period (length cs) ≡ count
+pub leads_all : (period target count : ℕ) (cs : List Checkpoint) (run : List ℕ) → 2 ≤ period → period ≤ 64 → IsInLine cs → digit_count period (length cs) ≡ count
     → AllByRecursion (λ t. length t < 2 ^ 64) (map (layer_text period) (layers_from period count cs))
     → Leads period target cs None run (reverse (map (layer_text period) (layers_from period count cs)))
 leads_all period target zero cs run two small h digits all = (ap (λ (xs : List Checkpoint). first_past xs target) (no_layers period cs two digits), tt)

@@ -1,11 +1,10 @@
 -- What grows at its end: runs and layers.
 use Rattle.std.proofs.Common.{◌≡◌, ℕ, zero, suc, ◌+◌, ◌*◌, ◌<◌, ◌≤◌, List, [], ◌∷◌, ◌++◌, length, take, drop, sym, ◌∙◌, ap, arith, length-append}
 use Rattle.std.proofs.lemmas.List.{take-append-le, drop-append-le, take_all, drop_all, length-drop}
-use Rattle.std.proofs.lemmas.List.Concat.{flat_map-append}
 use Rattle.std.specs.List.{flat_map}
 use Rattle.layered_index.specs.declared.checkpoint.Checkpoint.{Checkpoint}
 use Rattle.layered_index.specs.Checkpoint.{checkpoint, docs_end, checkpoint_block}
-use Rattle.layered_index.specs.Layers.{groups, layer_text, docs_start, pointers, layer_above}
+use Rattle.layered_index.specs.Layers.{groups, docs_start, pointers}
 use Rattle.layered_index.proofs.GroupLemmas.{groups_none, groups_more}
 
 -- a list of one run

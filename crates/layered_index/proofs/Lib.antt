@@ -36,3 +36,7 @@ pub mod RestOfLayerLemmas
 pub mod DescentLemmas
 pub mod OuterLayersLemmas
 pub mod LineLemmas
+pub mod RowLemmas
+pub mod RowSeekLemmas
+pub mod LowerLemmas
+pub mod OutlineLemmas

@@ -1,10 +1,10 @@
 -- Lists in line are cut and joined; and for callers: one that is known to end somewhere takes what begins there.
-use Rattle.std.proofs.Common.{◌≡◌, ℕ, ◌+◌, ◌^◌, ◌<◌, ◌≤◌, List, [], ◌∷◌, ◌++◌, length, take, drop, refl, sym, ◌∙◌, ap, subst, arith}
+use Rattle.std.proofs.Common.{◌≡◌, ℕ, ◌+◌, ◌≤◌, List, [], ◌∷◌, ◌++◌, length, take, drop, refl, sym, ◌∙◌, ap, subst, arith}
 use Rattle.std.proofs.Common.{append_assoc}
 use Rattle.std.proofs.lemmas.List.{take-append-drop}
 use Rattle.std.specs.List.{AllByRecursion}
 use Rattle.layered_index.specs.declared.checkpoint.Checkpoint.{Checkpoint}
-use Rattle.layered_index.specs.Checkpoint.{checkpoint, docs_end, bytes_end, IsFilled, IsWithinLimits, IsInLineFrom, IsInLine}
+use Rattle.layered_index.specs.Checkpoint.{docs_end, bytes_end, IsFilled, IsWithinLimits, IsInLineFrom, IsInLine}
 use Rattle.layered_index.specs.Checkpoint.{EndsAt}
 
 -- a list that goes on is a front and a rest that goes on from there

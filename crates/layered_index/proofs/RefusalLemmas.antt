@@ -2,10 +2,7 @@
 use Rattle.std.proofs.Common.{inl, inr, refl}
 use Rattle.layered_index.specs.declared.fault.ReadFault.{ReadFault}
 use Rattle.layered_index.specs.declared.fault.ReadFault.TheVariants.{Malformed, OutOfMemory}
-use Rattle.layered_index.specs.declared.fault.Refusal.{Refusal}
-use Rattle.layered_index.specs.declared.fault.Refusal.TheVariants as refusal
-use Rattle.layered_index.specs.declared.index_fault.IndexFault.{IndexFault}
-use Rattle.layered_index.specs.Refusal.{refusal_of, answer_to, RefusesOnlyUnless, RefusedOnlyUnless, FailsOnlyUnless}
+use Rattle.layered_index.specs.Refusal.{refusal_of, RefusesOnlyUnless, FailsOnlyUnless}
 
 -- A fault is answered by its refusal.
 pub refused : (good : Type 0) (fault : ReadFault) → FailsOnlyUnless good fault → RefusesOnlyUnless good (refusal_of fault)

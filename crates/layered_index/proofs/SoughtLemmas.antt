@@ -1,14 +1,14 @@
 -- What a seek reads of one block, and of the layers that are left.
-use Rattle.std.proofs.Common.{◌≡◌, ℕ, zero, suc, ◌+◌, ◌-◌, ◌^◌, ◌<◌, ◌≤◌, inl, inr, Bool, true, false, cond, eqb, ltb, List, [], ◌∷◌, ◌++◌, length, take, drop}
+use Rattle.std.proofs.Common.{◌≡◌, ℕ, zero, suc, ◌+◌, ◌-◌, ◌^◌, ◌<◌, ◌≤◌, inl, inr, Bool, true, false, cond, ltb, List, [], ◌∷◌, ◌++◌, length}
 use Rattle.std.proofs.Common.{Option, Some, None, refl, sym, ◌∙◌, ap, subst, arith, append_assoc}
 use Rattle.std.proofs.lemmas.Bool.{lt-ltb, le-ltb, cases_lt, cond-true, cond-false}
-use Rattle.std.proofs.lemmas.List.{append-nil, take-append-drop}
+use Rattle.std.proofs.lemmas.List.{append-nil}
 use Rattle.std.specs.Prelude.{IfSome, slice_range}
 use Rattle.std.specs.Option.{option_or}
 use Rattle.std.specs.List.{flat_map}
 use Rattle.store_base.proofs.ListLemmas.{pass_none}
 use Rattle.store_base.specs.VInt.{◌>>=◌}
-use Rattle.store_base.specs.ReadingLemmas.{bind_some, some_is, pass_some, bytes_after}
+use Rattle.store_base.specs.ReadingLemmas.{bind_some, some_is}
 use Rattle.store_base.specs.Serialize.{IsBytes}
 use Rattle.layered_index.specs.declared.checkpoint.Checkpoint.{Checkpoint}
 use Rattle.layered_index.specs.declared.run_seek.Sought.{Sought}
@@ -16,8 +16,8 @@ use Rattle.layered_index.specs.Checkpoint.{docs_end, IsInLineFrom, IsInLine, ste
 use Rattle.layered_index.specs.Layers.{layer_text, docs_start}
 use Rattle.layered_index.specs.BlockReading.{step_at, steps_at, heading_at}
 use Rattle.layered_index.specs.Sought.{sought_from, sought_at, scanned, scanned_at, IsPast, IsRunAt, IsFoundAbove}
-use Rattle.layered_index.proofs.BlockReadingLemmas.{step_again, step_read, heading_again, heading_read, steps_again, steps_read}
-use Rattle.layered_index.proofs.PointedLemmas.{found_past, run_pointed}
+use Rattle.layered_index.proofs.BlockReadingLemmas.{step_again, step_read, heading_again, heading_read, steps_again}
+use Rattle.layered_index.proofs.PointedLemmas.{run_pointed}
 use Rattle.layered_index.proofs.GrowthLemmas.{groups_one}
 
 -- what holds anyway holds where there is a value

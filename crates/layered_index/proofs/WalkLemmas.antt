@@ -1,7 +1,7 @@
 -- Walking over the runs of a layer: one step of it.
-use Rattle.std.proofs.Common.{◌≡◌, ℕ, zero, suc, ◌+◌, ◌-◌, ◌*◌, ◌<◌, ◌≤◌, Bool, true, false, cond, List, [], ◌∷◌, length, Option, Some, None, refl, sym, ◌∙◌, ap, subst, arith}
+use Rattle.std.proofs.Common.{◌≡◌, ℕ, zero, suc, ◌+◌, ◌-◌, ◌*◌, ◌<◌, ◌≤◌, true, false, cond, List, [], ◌∷◌, length, Option, Some, None, refl, sym, ◌∙◌, ap, subst, arith}
 use Rattle.std.proofs.lemmas.Bool.{cond-true, cond-false, ltb-true, and_parts}
-use Rattle.std.specs.Prelude.{◌↔◌, MatchOption, IsTrue, IsSome, is_none}
+use Rattle.std.specs.Prelude.{IsSome}
 use Rattle.std.specs.Option.{option_map_or}
 use Rattle.store_base.specs.VInt.{◌>>=◌, number_at}
 use Rattle.store_base.specs.ReadingLemmas.{bind_some, some_is}

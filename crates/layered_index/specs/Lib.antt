@@ -12,3 +12,4 @@ pub mod Laws
 pub mod Seeking
 pub mod Sought
 pub mod IndexHeads
+pub mod Rows

@@ -1,17 +1,24 @@
 //! Seeks in the bytes of an index: no table is made of them, and nothing takes memory.
-ghost use Rattle.std.specs.Prelude.{◌≡◌, ◌≤◌, ◌+◌, ◌*◌, List, length, Ok, IfOk, IfErr, IfSome, IsOkAnd, None};
+ghost use Rattle.std.specs.Prelude.{◌≡◌, ◌<◌, ◌≤◌, ◌+◌, ◌-◌, ◌*◌, List, length, take, drop};
+ghost use Rattle.std.specs.Prelude.{Ok, IfOk, IfErr, IfSome, IsOkAnd, None};
 ghost use Rattle.std.specs.Option.{option_map};
 ghost use Rattle.store_base.specs.Counts.{raised};
 ghost use Rattle.layered_index.specs.declared.checkpoint.Checkpoint.{Checkpoint};
 ghost use Rattle.layered_index.specs.Checkpoint.{docs_end, first_past};
 ghost use Rattle.layered_index.specs.Layers.{digit_count};
 ghost use Rattle.layered_index.specs.IndexReading.{IsIndexPart, HasIndex};
+ghost use Rattle.layered_index.specs.Rows.{AreRowsAbove, IsDeepest, layer_at, lower_layers};
+ghost use Rattle.layered_index.specs.LayerReading.{items};
 ghost use Rattle.layered_index.specs.Sought.{next_layer, after_numbers, from_pointer, past_on, AreOn};
 ghost use Rattle.layered_index.specs.Sought.{IsPast, IndexBytes};
 
 use crate::checkpoint::Checkpoint;
 use crate::layer_cursor::LayerCursor;
 use crate::looks::Steps;
+use crate::lower_layers::LowerLayers;
+use crate::outline::{Outline, fill, fit};
+use crate::row::Row;
+use crate::row_guide::write_guides;
 use crate::run_seek::{seek_block, seek_layer};
 use std::marker::Model;
 use store_base::{DocId, StoreError, first_number};
@@ -55,7 +62,7 @@ pub(crate) fn pass_numbers(count: usize, bytes: &[u8]) -> Option<&[u8]>
 // The next layer, where it ends, and, of the layers after it, the ends and the bytes.
 #[inline(always)]
 #[tactic(auto, unfolding(crate::specs::Sought::next_layer))]
-fn next_layer<'a>(
+pub(crate) fn next_layer<'a>(
     place: usize,
     ends: &'a [u8],
     texts: &'a [u8],
@@ -226,6 +233,96 @@ impl<'a> IndexSlice<'a> {
         ensures refused { IfErr result (λ e. e ≡ StoreError.BadIndex) }
     {
         Ok(self.descend(target, steps)?.found)
+    }
+
+    /// The lowest layers of the index, as many as the height says. It passes over the layers above them, and decodes
+    /// nothing but where each ends. It returns `BadIndex` where there are fewer layers.
+    pub fn below(&self, height: usize) -> Result<LowerLayers<'a>, StoreError>
+        ensures answer { (cs : List Checkpoint) → IsIndexPart self.now.period self.now.bytes cs
+            → height ≤ digit_count self.now.period (length cs)
+            → IsOkAnd result (λ lower. lower ≡ lower_layers self.now.period height cs) }
+        ensures height { IfOk result (λ lower. lower.height ≡ height) }
+        ensures period { IfOk result (λ lower. lower.period ≡ self.now.period) }
+        ensures refused { IfErr result (λ e. e ≡ StoreError.BadIndex) }
+    {
+        if self.count < height {
+            return Err(StoreError::BadIndex);
+        }
+        let mut left = self.count;
+        let mut place = 0;
+        let mut ends = self.ends;
+        let mut texts = self.texts;
+        while left > height {
+            let Some((_, end, more_ends, more)) = next_layer(place, ends, texts) else {
+                return Err(StoreError::BadIndex);
+            };
+            left -= 1;
+            place = end;
+            ends = more_ends;
+            texts = more;
+        }
+        Ok(LowerLayers::new(self.period, height, place, ends, texts))
+    }
+
+    // The bytes of the lowest layer that has no more checkpoints than there is room for, from the top down, and how
+    // many layers lie below it. It is none where the top layer has more.
+    fn deepest(&self, room: usize) -> Result<(usize, &'a [u8]), StoreError>
+        ensures answer { (cs : List Checkpoint) → IsIndexPart self.now.period self.now.bytes cs
+            → IsOkAnd result (λ x. IsDeepest self.now.period room cs x.0 (items 0 0 0 x.1.now)) }
+        ensures fits { IfOk result (λ x. length (items 0 0 0 x.1.now) ≤ room) }
+        ensures few { IfOk result (λ x. x.0 ≤ 64) }
+        ensures refused { IfErr result (λ e. e ≡ StoreError.BadIndex) }
+    {
+        let mut deepest: &'a [u8] = &self.texts[..0];
+        let mut left = self.count;
+        let mut place = 0;
+        let mut ends = self.ends;
+        let mut texts = self.texts;
+        while left > 0 {
+            let Some((layer, end, more_ends, more)) = next_layer(place, ends, texts) else {
+                return Err(StoreError::BadIndex);
+            };
+            if !fit(LayerCursor::new(layer), room) {
+                return Ok((left, deepest));
+            }
+            left -= 1;
+            deepest = layer;
+            place = end;
+            ends = more_ends;
+            texts = more;
+        }
+        if !texts.is_empty() {
+            return Err(StoreError::BadIndex);
+        }
+        Ok((0, deepest))
+    }
+
+    /// Fills the front of the rows with those of the lowest layer that has no more checkpoints than there are rows, and
+    /// says how many it filled and how many layers lie below that layer. It fills none where the top layer has more. It
+    /// decodes the layers from the top down to that one, and no more checkpoints of the next than there are rows.
+    ///
+    /// It returns `BadIndex` where the layers aren't where the index says they end, and then the rows stay.
+    pub fn outline(&self, rows: &mut [Row]) -> Result<Outline, StoreError>
+        ensures answer { (cs : List Checkpoint) → IsIndexPart self.now.period self.now.bytes cs
+            → IsOkAnd result (λ o. AreRowsAbove self.now.period o.height cs (take o.rows rows.new)) }
+        ensures deepest { (cs : List Checkpoint) → IsIndexPart self.now.period self.now.bytes cs
+            → IfOk result (λ o. 0 < o.height
+            → length rows.old < length (layer_at self.now.period (o.height - 1) cs)) }
+        ensures height { (cs : List Checkpoint) → IsIndexPart self.now.period self.now.bytes cs
+            → IfOk result (λ o. o.height ≤ digit_count self.now.period (length cs)) }
+        ensures few { IfOk result (λ o. o.height ≤ 64) }
+        ensures room { IfOk result (λ o. o.rows ≤ length rows.old) }
+        ensures rest { IfOk result (λ o. drop o.rows rows.new ≡ drop o.rows rows.old) }
+        ensures refused { IfErr result (λ e. (e ≡ StoreError.BadIndex) × (rows.new ≡ rows.old)) }
+    {
+        let _ = &self.period;
+        let (height, layer) = self.deepest(rows.len())?;
+        let count = fill(LayerCursor::new(layer), rows);
+        write_guides(&mut rows[..count]);
+        Ok(Outline {
+            rows: count,
+            height,
+        })
     }
 
     /// The id after the last document. It decodes the top layer, which is one run.

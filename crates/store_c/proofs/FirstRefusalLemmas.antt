@@ -15,7 +15,7 @@ use Rattle.store_format.specs.StoreFile.{checkpoints_of}
 use Rattle.store_format.proofs.ApartLemmas.{stores_are_apart}
 use Rattle.store_reader.specs.CallAnswers.{exact_result}
 use Rattle.store_reader.specs.Opening.{IsSomeStore}
-use Rattle.store_reader.specs.StoreSlices.{document_in}
+use Rattle.store_reader.specs.StoreSlices.{document_in, RefusesOne}
 use Rattle.store_reader.specs.StoreTails.{HasIndexIn}
 use Rattle.store_reader.specs.Viewing.{Viewing, IsViewOf, FindsFooter, FindsIndex, FindsFrom, Finds, slot_of, count_in}
 use Rattle.store_reader.proofs.AlikeLemmas.{footer_or_refusal, one_footer, refused_once}
@@ -130,10 +130,6 @@ place_is_given file id p e is s refused = err_not_ok e _ (sym refused ∙ is.doc
 same_error : (e d : StoreError) → ◌≡◌ {A = Result (List ℕ) StoreError} (Err e) (Err d) → e ≡ d
 same_error e d h = cc
 
--- the number of a refusal comes exactly where the document is refused so
-pub refused_by : (file : List ℕ) (id result : ℕ) (e d : StoreError) → result ≡ number_of e → RefusesGet file id e → (s : IsSomeStore file) → document_in file s id ≡ Err d → result ≡ number_of d
-refused_by file id result e d is h s refused = is ∙ ap number_of (same_error e d (sym (h.1 s) ∙ refused))
-
 -- a document that is in a block is one of the store
 pub is_in_store : (file : List ℕ) (s : IsSomeStore file) (id : ℕ) (x : Slot) → document_in file s id ≡ exact_result id (Some x) → document_in file s id ≡ Err (InvalidArgument id) → ⊥
 is_in_store file s id (doc bytes) is refused = let no : ◌≡◌ {A = Result (List ℕ) StoreError} (Ok bytes) (Err (InvalidArgument id)) = sym is ∙ refused in cc
@@ -143,29 +139,40 @@ is_in_store file s id damaged is refused =
 
 -- ---- numbers of documents' refusals
 
--- 6 comes exactly where there is no document, if the bytes are a store's file
-pub by_six : (file : List ℕ) (id result : ℕ) (e : StoreError) → result ≡ number_of e → RefusesGet file id e → (s : IsSomeStore file) → (result ≡ 6) ↔ (document_in file s id ≡ Err (InvalidArgument id))
-by_six file id result e is h s = (
-  λ six. elim h.0 [
-    | inl none ↦ h.1 s ∙ ap (λ (x : StoreError). Err x) none
-    | inr more ↦ elim more [
-      | inl bad ↦ absurd (omega (arith, six, is, ap number_of bad))
-      | inr index ↦ absurd (omega (arith, six, is, ap number_of index))
-    ]
-  ],
-  refused_by file id result e (InvalidArgument id) is h s,
-)
+-- Of a document that the store refuses so, in bytes that are a store's file, the number says how.
+module _ (file : List ℕ) (id result : ℕ) (e : StoreError) (is : result ≡ number_of e) (one : RefusesOne id e) (s : IsSomeStore file) (refused : document_in file s id ≡ Err e) where
+  back : (d : StoreError) → document_in file s id ≡ Err d → result ≡ number_of d
+  back d other = is ∙ ap number_of (same_error e d (sym refused ∙ other))
 
--- 7 comes exactly where it is damaged
+  -- 6 comes exactly where there is no document
+  pub six_is : (result ≡ 6) ↔ (document_in file s id ≡ Err (InvalidArgument id))
+  six_is = (
+    λ six. elim one [
+      | inl none ↦ refused ∙ ap (λ (x : StoreError). Err x) none
+      | inr more ↦ elim more [
+        | inl bad ↦ absurd (omega (arith, six, is, ap number_of bad))
+        | inr index ↦ absurd (omega (arith, six, is, ap number_of index))
+      ]
+    ],
+    back (InvalidArgument id),
+  )
+
+  -- 7 comes exactly where it is damaged
+  pub seven_is : (result ≡ 7) ↔ (document_in file s id ≡ Err (DamagedDocument id))
+  seven_is = (
+    λ seven. elim one [
+      | inl none ↦ absurd (omega (arith, seven, is, ap number_of none))
+      | inr more ↦ elim more [
+        | inl bad ↦ refused ∙ ap (λ (x : StoreError). Err x) bad
+        | inr index ↦ absurd (omega (arith, seven, is, ap number_of index))
+      ]
+    ],
+    back (DamagedDocument id),
+  )
+
+pub by_six : (file : List ℕ) (id result : ℕ) (e : StoreError) → result ≡ number_of e → RefusesGet file id e → (s : IsSomeStore file) → (result ≡ 6) ↔ (document_in file s id ≡ Err (InvalidArgument id))
+by_six file id result e is h s = six_is file id result e is h.0 s (h.1 s)
+
 pub by_seven : (file : List ℕ) (id result : ℕ) (e : StoreError) → result ≡ number_of e → RefusesGet file id e → (s : IsSomeStore file)
     → (result ≡ 7) ↔ (document_in file s id ≡ Err (DamagedDocument id))
-by_seven file id result e is h s = (
-  λ seven. elim h.0 [
-    | inl none ↦ absurd (omega (arith, seven, is, ap number_of none))
-    | inr more ↦ elim more [
-      | inl bad ↦ h.1 s ∙ ap (λ (x : StoreError). Err x) bad
-      | inr index ↦ absurd (omega (arith, seven, is, ap number_of index))
-    ]
-  ],
-  refused_by file id result e (DamagedDocument id) is h s,
-)
+by_seven file id result e is h s = seven_is file id result e is h.0 s (h.1 s)

@@ -49,19 +49,22 @@ pub index_refused : (file : List ℕ) (id : ℕ) (e : StoreError) → e ≡ BadI
 index_refused file id e bad none = (inr (inr bad), λ s. absurd (none s))
 
 -- a store's document is never refused by its index
-no_index : (id : ℕ) (o : Option Slot) → exact_result id o ≡ Err BadIndex → ⊥
+pub no_index : (id : ℕ) (o : Option Slot) → exact_result id o ≡ Err BadIndex → ⊥
 no_index id None h = cc
 no_index id (Some damaged) h = cc
 no_index id (Some (doc b)) h = cc
 
-pub by_other : (file : List ℕ) (id : ℕ) (e : StoreError) → RefusesGet file id e → (number_of e ≡ 6 → ⊥) → (number_of e ≡ 7 → ⊥) → RefusesUnopened file (number_of e)
-by_other file id e h six seven = elim h.0 [
+-- one that is refused by no number but 5 is refused by it
+pub index_is : (id : ℕ) (e : StoreError) → RefusesOne id e → (number_of e ≡ 6 → ⊥) → (number_of e ≡ 7 → ⊥) → e ≡ BadIndex
+index_is id e one six seven = elim one [
   | inl none ↦ absurd (six (ap number_of none))
-  | inr more ↦ elim more [
-    | inl bad ↦ absurd (seven (ap number_of bad))
-    | inr index ↦ inr (ap number_of index, λ s. no_index id (slice_get (slots s.blocks) id) (h.1 s ∙ ap (λ (x : StoreError). Err x) index))
-  ]
+  | inr more ↦ elim more [ inl bad ↦ absurd (seven (ap number_of bad)) | inr index ↦ index ]
 ]
+
+pub by_other : (file : List ℕ) (id : ℕ) (e : StoreError) → RefusesGet file id e → (number_of e ≡ 6 → ⊥) → (number_of e ≡ 7 → ⊥) → RefusesUnopened file (number_of e)
+by_other file id e h six seven =
+    let index = index_is id e h.0 six seven in
+    inr (ap number_of index, λ s. no_index id (slice_get (slots s.blocks) id) (h.1 s ∙ ap (λ (x : StoreError). Err x) index))
 
 -- ---- the bytes by another name
 

@@ -1,11 +1,11 @@
 pub mod TableLemmas
-pub mod TableSeekLemmas
 pub mod TableViewLemmas
 pub mod PlacesLemmas
 pub mod FirstRefusalLemmas
 pub mod LocatingLemmas
 pub mod CheckingLemmas
 pub mod GettingLemmas
+pub mod OutliningLemmas
 pub mod RangeLemmas
 pub mod TextLemmas
 pub mod MemoryLemmas

@@ -1,7 +1,7 @@
 -- With which number a document is refused by the table of its file.
 use Rattle.std.proofs.Common.{◌≡◌, ◌↔◌, ℕ, List, Option, Some, None, arith}
 use Rattle.store_format.specs.Block.{Slot, doc, damaged}
-use Rattle.store_c.specs.declared.table_row.Block.{Block}
+use Rattle.layered_index.specs.declared.row.Row.{Row}
 use Rattle.store_c.specs.declared.place.Place.{Place}
 use Rattle.store_c.specs.declared.refusal.Refusal.{Refusal}
 use Rattle.store_c.specs.declared.refusal.Refusal.TheVariants.{NoDocument, Damaged, NoRoom, OtherTable, TailTooShort, OtherBlock}
@@ -17,7 +17,7 @@ given_or_none b h = cc
 given_or_damaged : (b : List ℕ) → ◌≡◌ {A = Option Slot} (Some (doc b)) (Some damaged) → ⊥
 given_or_damaged b h = let same : doc b ≡ damaged = cc in cc
 
-module _ (file : List ℕ) (table : List Block) (id : ℕ) (known : IsTableOf file table) where
+module _ (file : List ℕ) (table : List Row) (id : ℕ) (known : IsTableOf file table) where
   pub none_refused : (r : Refusal) (result : ℕ) → result ≡ refusal_number r → RefusesDocument file table id r → (result ≡ 6) ↔ HasSlot file id None
   none_refused NoDocument result is why = (λ _. why known, λ _. is)
   none_refused Damaged result is why = (λ e. absurd (omega (arith, e, is)), λ x. absurd (none_or_damaged (one_slot file id None (Some damaged) x (why known))))

@@ -14,27 +14,27 @@ use Rattle.store_format.proofs.BlockLemmas.{starts_from-append, concat-append, l
 use Rattle.store_format.proofs.StoreLemmas.{docs_in-cons, length-data_of-cons, data_of-append, AreBlocks-append, checkpoints_from-append}
 use Rattle.docstore.specs.Trace.{weight}
 use Rattle.docstore.specs.BlockOutput.{with_blocks, HoldsBlocks, IsSound}
-use Rattle.docstore.specs.Writer.{Writing, blocks_of, flushed, with_document}
-use Rattle.store_c.specs.declared.table_row.BlockEnd.{BlockEnd}
+use Rattle.docstore.specs.Writer.{Writing, flushed, with_document}
+use Rattle.layered_index.specs.declared.row.RowEnd.{RowEnd}
 use Rattle.store_c.specs.declared.writer.Writer.{Writer}
-use Rattle.store_c.specs.Calls.{end_of, row_of, ends_in, ends_of, start_in}
-use Rattle.store_c.proofs.TableLemmas.{zero_block}
+use Rattle.layered_index.specs.Rows.{end_of, row_of, ends_in, ends_of, start_in}
+use Rattle.layered_index.proofs.RowLemmas.{zero_row}
 use Rattle.store_c.specs.Writing.{Memory, memory, Holds, bytes_of, Begins, PutsDocument, EndsBlock, EndsBlockAt}
 
-pub same_block : (a b : BlockEnd) → a.end_doc ≡ b.end_doc → a.end_byte ≡ b.end_byte → a ≡ b
+pub same_block : (a b : RowEnd) → a.end_doc ≡ b.end_doc → a.end_byte ≡ b.end_byte → a ≡ b
 same_block a b docs bytes = λ i. record { end_doc = docs i; end_byte = bytes i }
 
 -- ---- the rows of the finished blocks
 
 -- the last row ends after the last block
-pub last_ends : (id byte : ℕ) (bs : List StoreBlock) (rows : List BlockEnd) → take (length bs) rows ≡ map ends_of (checkpoints_from id byte bs)
+pub last_ends : (id byte : ℕ) (bs : List StoreBlock) (rows : List RowEnd) → take (length bs) rows ≡ map ends_of (checkpoints_from id byte bs)
     → start_in (record { end_doc = id; end_byte = byte }) rows (length bs) ≡ record { end_doc = id + docs_in bs; end_byte = byte + length (data_of bs) }
 last_ends id byte [] rows e = same_block _ _ (omega arith) (omega arith)
 last_ends id byte (b ∷ bs) [] e = absurd cc
 last_ends id byte (b ∷ bs) (r ∷ rows) e =
     let here : r ≡ record { end_doc = id + b.count; end_byte = byte + length b.bytes } = cc in
     let others : take (length bs) rows ≡ map ends_of (checkpoints_from (id + b.count) (byte + length b.bytes) bs) = cc in
-    ap (λ (x : BlockEnd). start_in x rows (length bs)) here
+    ap (λ (x : RowEnd). start_in x rows (length bs)) here
     ∙ last_ends (id + b.count) (byte + length b.bytes) bs rows others
     ∙ same_block _ _ (omega (arith, docs_in-cons b bs)) (omega (arith, length-data_of-cons b bs))
 
@@ -51,8 +51,8 @@ pub has_finished : (m : Memory) (text : List ℕ) (w : Writing) → Holds m text
 has_finished m text w h = record { sound = h.sound.output; works = h.works; alone = h.alone; block_size = h.block_size; blocks = h.blocks; rows = h.rows }
 
 pub open_at : (m : Memory) (w : Writing) → HasFinished m w
-    → start_in zero_block (ends_in m.table) m.writer.blocks ≡ record { end_doc = docs_in w.output.finished; end_byte = length (data_of w.output.finished) }
-open_at m w h = ap (start_in zero_block (ends_in m.table)) h.blocks ∙ last_ends 0 0 w.output.finished (ends_in m.table) h.rows ∙ same_block _ _ (omega arith) (omega arith)
+    → start_in zero_row (ends_in m.table) m.writer.blocks ≡ record { end_doc = docs_in w.output.finished; end_byte = length (data_of w.output.finished) }
+open_at m w h = ap (start_in zero_row (ends_in m.table)) h.blocks ∙ last_ends 0 0 w.output.finished (ends_in m.table) h.rows ∙ same_block _ _ (omega arith) (omega arith)
 
 -- ---- a block that is ended
 
@@ -70,23 +70,23 @@ without_open writer = record { block_size = writer.block_size; blocks = writer.b
 abbrev pub with_block : Writing → List (List ℕ) → Writing
 with_block w docs = record w { pending = []; output = with_blocks w.output (block_of docs ∷ []) }
 
-module _ (m : Memory) (w : Writing) (docs : List (List ℕ)) (end : BlockEnd) (h : HasFinished m w) (some : 0 < length docs)
+module _ (m : Memory) (w : Writing) (docs : List (List ℕ)) (end : RowEnd) (h : HasFinished m w) (some : 0 < length docs)
     (starts : take (length docs) m.starts ≡ starts_from 0 docs) (room : length docs < length m.starts) (rows : m.writer.blocks < length m.table)
-    (ends : EndsBlockAt (start_in zero_block (ends_in m.table) m.writer.blocks) (length docs) (length (concat docs)) end) where
+    (ends : EndsBlockAt (start_in zero_row (ends_in m.table) m.writer.blocks) (length docs) (length (concat docs)) end) where
   abbrev bs : List StoreBlock
   bs = w.output.finished
 
   abbrev b : StoreBlock
   b = block_of docs
 
-  here : start_in zero_block (ends_in m.table) m.writer.blocks ≡ record { end_doc = docs_in bs; end_byte = length (data_of bs) }
+  here : start_in zero_row (ends_in m.table) m.writer.blocks ≡ record { end_doc = docs_in bs; end_byte = length (data_of bs) }
   here = open_at m w h
 
-  first_doc : (start_in zero_block (ends_in m.table) m.writer.blocks).end_doc ≡ docs_in bs
-  first_doc = ap (λ (x : BlockEnd). x.end_doc) here
+  first_doc : (start_in zero_row (ends_in m.table) m.writer.blocks).end_doc ≡ docs_in bs
+  first_doc = ap (λ (x : RowEnd). x.end_doc) here
 
-  first_byte : (start_in zero_block (ends_in m.table) m.writer.blocks).end_byte ≡ length (data_of bs)
-  first_byte = ap (λ (x : BlockEnd). x.end_byte) here
+  first_byte : (start_in zero_row (ends_in m.table) m.writer.blocks).end_byte ≡ length (data_of bs)
+  first_byte = ap (λ (x : RowEnd). x.end_byte) here
 
   blocks : AreBlocks (bs ++ b ∷ [])
   blocks = blocks_with m w docs h some (omega (arith, length-block docs, ends.few_bytes)) (omega (arith, ends.few_docs, first_doc))
@@ -155,20 +155,20 @@ module _ (m : Memory) (w : Writing) (docs : List (List ℕ)) (end : BlockEnd) (h
 -- ---- a document that is put
 
 -- an end that was found by a sum that stops at the greatest of its type
-pub exact_sum : (m : Memory) (len sum : ℕ) (start end : BlockEnd) → sum ≡ min (m.writer.bytes + len) 18446744073709551615 → EndsBlockAt start (m.writer.docs + 1) sum end → sum ≡ m.writer.bytes + len
+pub exact_sum : (m : Memory) (len sum : ℕ) (start end : RowEnd) → sum ≡ min (m.writer.bytes + len) 18446744073709551615 → EndsBlockAt start (m.writer.docs + 1) sum end → sum ≡ m.writer.bytes + len
 exact_sum m len sum start end is ends = let few = ends.few_bytes in omega arith
 
-pub exact_end : (m : Memory) (len sum : ℕ) (start end : BlockEnd) → sum ≡ m.writer.bytes + len → start ≡ start_in zero_block (ends_in m.table) m.writer.blocks
-    → EndsBlockAt start (m.writer.docs + 1) sum end → EndsBlockAt (start_in zero_block (ends_in m.table) m.writer.blocks) (m.writer.docs + 1) (m.writer.bytes + len) end
+pub exact_end : (m : Memory) (len sum : ℕ) (start end : RowEnd) → sum ≡ m.writer.bytes + len → start ≡ start_in zero_row (ends_in m.table) m.writer.blocks
+    → EndsBlockAt start (m.writer.docs + 1) sum end → EndsBlockAt (start_in zero_row (ends_in m.table) m.writer.blocks) (m.writer.docs + 1) (m.writer.bytes + len) end
 exact_end m len sum start end is from ends =
-    subst (λ (n : ℕ). EndsBlockAt (start_in zero_block (ends_in m.table) m.writer.blocks) (m.writer.docs + 1) n end) is (subst (λ (b : BlockEnd). EndsBlockAt b (m.writer.docs + 1) sum end) from ends)
+    subst (λ (n : ℕ). EndsBlockAt (start_in zero_row (ends_in m.table) m.writer.blocks) (m.writer.docs + 1) n end) is (subst (λ (b : RowEnd). EndsBlockAt b (m.writer.docs + 1) sum end) from ends)
 
 -- the numbers with one more document of this length
 abbrev pub with_length : Writer → ℕ → Writer
 with_length writer len = record { block_size = writer.block_size; blocks = writer.blocks; docs = writer.docs + 1; bytes = writer.bytes + len }
 
-module _ (old : Memory) (len : ℕ) (end : BlockEnd) (room : old.writer.docs + 2 ≤ length old.starts) (rows : old.writer.blocks < length old.table)
-    (ends : EndsBlockAt (start_in zero_block (ends_in old.table) old.writer.blocks) (old.writer.docs + 1) (old.writer.bytes + len) end) where
+module _ (old : Memory) (len : ℕ) (end : RowEnd) (room : old.writer.docs + 2 ≤ length old.starts) (rows : old.writer.blocks < length old.table)
+    (ends : EndsBlockAt (start_in zero_row (ends_in old.table) old.writer.blocks) (old.writer.docs + 1) (old.writer.bytes + len) end) where
   abbrev mid : Memory
   mid = memory (with_length old.writer len) (set old.starts old.writer.docs old.writer.bytes) old.table
 
@@ -206,7 +206,7 @@ module _ (old : Memory) (len : ℕ) (end : BlockEnd) (room : old.writer.docs + 2
   put_open light text w d size h =
       let g = grown text w d size h in
       let more = w.pending ++ d ∷ [] in
-      let first = ap (λ (x : BlockEnd). x.end_doc) (open_at old w (has_finished old text w h)) in
+      let first = ap (λ (x : RowEnd). x.end_doc) (open_at old w (has_finished old text w h)) in
       let on : with_document w d ≡ record w { pending = more } = rw (le-ltb w.block_size (weight more) (omega (arith, g.heavy, h.block_size))) refl in
       subst (Holds mid (text ++ d ++ [])) (sym on) (record {
         sound = record { ids = omega (arith, ends.few_docs, g.docs, first); light = omega (arith, g.heavy, h.block_size); output = h.sound.output };
@@ -236,9 +236,9 @@ module _ (old : Memory) (len : ℕ) (end : BlockEnd) (room : old.writer.docs + 2
       let on : with_document w d ≡ with_block w more =
       rw (lt-ltb w.block_size (weight more) (omega (arith, g.heavy, h.block_size)))
       (ap (λ (bs : List StoreBlock). record w { pending = []; output = with_blocks w.output bs }) (blocks_of-some more some)) in
-      let ends' : EndsBlockAt (start_in zero_block (ends_in old.table) old.writer.blocks) (length more) (length (concat more)) end =
-      subst (λ (n : ℕ). EndsBlockAt (start_in zero_block (ends_in old.table) old.writer.blocks) n (length (concat more)) end) (sym g.docs)
-      (subst (λ (n : ℕ). EndsBlockAt (start_in zero_block (ends_in old.table) old.writer.blocks) (old.writer.docs + 1) n end) (sym g.bytes) ends) in
+      let ends' : EndsBlockAt (start_in zero_row (ends_in old.table) old.writer.blocks) (length more) (length (concat more)) end =
+      subst (λ (n : ℕ). EndsBlockAt (start_in zero_row (ends_in old.table) old.writer.blocks) n (length (concat more)) end) (sym g.docs)
+      (subst (λ (n : ℕ). EndsBlockAt (start_in zero_row (ends_in old.table) old.writer.blocks) (old.writer.docs + 1) n end) (sym g.bytes) ends) in
       let holds = block_ended mid w more end g.finished some g.starts (omega (arith, g.docs, long)) rows ends' (text ++ d) g.text_is in
       let count : length more + 1 ≡ old.writer.docs + 2 = omega (arith, g.docs) in
       subst (Holds (memory (without_open mid.writer) tail (set old.table old.writer.blocks (row_of end))) ((text ++ d) ++ bytes_of (old.writer.docs + 2) tail)) (sym on)
@@ -248,15 +248,15 @@ module _ (old : Memory) (len : ℕ) (end : BlockEnd) (room : old.writer.docs + 2
 
 -- ---- the open block is ended
 
-pub ended : (old : Memory) (end : BlockEnd) → 0 < old.writer.docs → old.writer.docs < length old.starts → old.writer.blocks < length old.table
-    → EndsBlockAt (start_in zero_block (ends_in old.table) old.writer.blocks) old.writer.docs old.writer.bytes end
+pub ended : (old : Memory) (end : RowEnd) → 0 < old.writer.docs → old.writer.docs < length old.starts → old.writer.blocks < length old.table
+    → EndsBlockAt (start_in zero_row (ends_in old.table) old.writer.blocks) old.writer.docs old.writer.bytes end
     → EndsBlock (old.writer.docs + 1) old (memory (without_open old.writer) (set old.starts old.writer.docs old.writer.docs) (set old.table old.writer.blocks (row_of end)))
 ended old end some room rows ends text w h =
     let docs = w.pending in
     let after = set old.table old.writer.blocks (row_of end) in
-    let ends' : EndsBlockAt (start_in zero_block (ends_in old.table) old.writer.blocks) (length docs) (length (concat docs)) end =
-    subst (λ (n : ℕ). EndsBlockAt (start_in zero_block (ends_in old.table) old.writer.blocks) n (length (concat docs)) end) h.docs
-    (subst (λ (n : ℕ). EndsBlockAt (start_in zero_block (ends_in old.table) old.writer.blocks) old.writer.docs n end) h.bytes ends) in
+    let ends' : EndsBlockAt (start_in zero_row (ends_in old.table) old.writer.blocks) (length docs) (length (concat docs)) end =
+    subst (λ (n : ℕ). EndsBlockAt (start_in zero_row (ends_in old.table) old.writer.blocks) n (length (concat docs)) end) h.docs
+    (subst (λ (n : ℕ). EndsBlockAt (start_in zero_row (ends_in old.table) old.writer.blocks) old.writer.docs n end) h.bytes ends) in
     let holds = block_ended old w docs end (has_finished old text w h) (omega (arith, h.docs)) h.starts (omega (arith, h.docs)) rows ends' text h.written in
     let on : flushed w ≡ with_block w docs = ap (λ (bs : List StoreBlock). record w { pending = []; output = with_blocks w.output bs }) (blocks_of-some docs (omega (arith, h.docs))) in
     subst (λ (n : ℕ). Holds (memory (without_open old.writer) (set old.starts n n) after) (text ++ bytes_of (n + 1) (set old.starts n n)) (flushed w)) (sym h.docs)

@@ -8,7 +8,7 @@ use Rattle.store_format.specs.StoreFile.{block_of, data_of, docs_in}
 use Rattle.store_format.proofs.BlockLemmas.{concat-append, length-block}
 use Rattle.store_format.proofs.StoreLemmas.{length-data_of-cons, data_of-append, data_fits}
 use Rattle.docstore.specs.Writer.{Writing}
-use Rattle.store_c.specs.declared.table_row.BlockEnd.{BlockEnd}
+use Rattle.layered_index.specs.declared.row.RowEnd.{RowEnd}
 use Rattle.store_c.specs.declared.writer_refusal.WriterRefusal.{WriterRefusal}
 use Rattle.store_c.specs.declared.writer_refusal.WriterRefusal.TheVariants.{NoMemory, OldVersion, BlockTooLarge, TooManyDocs, BadPeriod, NoRoom, OpenBlock, OtherWriter}
 use Rattle.store_c.specs.Writing.{Memory, memory, Holds, EndsBlockAt, RefusesEnd, LacksRoom, HasRoom, HasNoEnd, open_start, RefusesLength, TakesLength, IsOther}
@@ -39,7 +39,7 @@ pub put_refused : (m : Memory) (len sum : ℕ) (refusal : WriterRefusal) → Has
 put_refused m len sum TooManyDocs room is r = (
   room,
   λ text w h.
-      let first = ap (λ (x : BlockEnd). x.end_doc) (open_at m w (has_finished m text w h)) in
+      let first = ap (λ (x : RowEnd). x.end_doc) (open_at m w (has_finished m text w h)) in
       let ids = h.sound.ids in
       omega (arith, r, h.docs),
 )
@@ -47,8 +47,8 @@ put_refused m len sum BlockTooLarge room is r = (
   room,
   λ text w d size h.
       let first = open_at m w (has_finished m text w h) in
-      let first_doc = ap (λ (x : BlockEnd). x.end_doc) first in
-      let first_byte = ap (λ (x : BlockEnd). x.end_byte) first in
+      let first_doc = ap (λ (x : RowEnd). x.end_doc) first in
+      let first_byte = ap (λ (x : RowEnd). x.end_byte) first in
       let more = w.pending ++ d ∷ [] in
       let docs : length more ≡ m.writer.docs + 1 = omega (arith, length-append w.pending (d ∷ []), h.docs) in
       let long = grown m text w d h in
@@ -70,11 +70,11 @@ put_refused m len sum NoRoom room is r = absurd r
 put_refused m len sum OpenBlock room is r = absurd r
 put_refused m len sum OtherWriter room is r = absurd r
 
-pub put_takes : (m : Memory) (len : ℕ) (end : BlockEnd) → HasRoom 2 m → EndsBlockAt (open_start m) (m.writer.docs + 1) (m.writer.bytes + len) end → TakesLength len m
+pub put_takes : (m : Memory) (len : ℕ) (end : RowEnd) → HasRoom 2 m → EndsBlockAt (open_start m) (m.writer.docs + 1) (m.writer.bytes + len) end → TakesLength len m
 put_takes m len end room ends = record {
   room = room;
   number = λ text w h.
-      let first = ap (λ (x : BlockEnd). x.end_doc) (open_at m w (has_finished m text w h)) in
+      let first = ap (λ (x : RowEnd). x.end_doc) (open_at m w (has_finished m text w h)) in
       omega (arith, first, ends.few_docs, h.docs);
   place = λ text w d size h. omega (arith, grown m text w d h, ends.few_bytes, size);
 }
@@ -100,8 +100,8 @@ pub end_other : (m : Memory) → 0 < m.writer.docs → HasNoEnd m → IsOther m.
 end_other m some none starts text w h =
     let held = memory m.writer starts m.table in
     let first = open_at held w (has_finished held text w h) in
-    let first_doc = ap (λ (x : BlockEnd). x.end_doc) first in
-    let first_byte = ap (λ (x : BlockEnd). x.end_byte) first in
+    let first_doc = ap (λ (x : RowEnd). x.end_doc) first in
+    let first_byte = ap (λ (x : RowEnd). x.end_byte) first in
     let long = length-block w.pending in
     let fits = h.fits in
     let docs = h.docs in
@@ -109,5 +109,5 @@ end_other m some none starts text w h =
     let ids = h.sound.ids in
     let place = has_place held text w w.pending h (omega arith) fits (omega arith) in
     let start = open_start m in
-    let end : BlockEnd = record { end_doc = start.end_doc + m.writer.docs; end_byte = start.end_byte + (m.writer.bytes + 4 * m.writer.docs + 4) } in
+    let end : RowEnd = record { end_doc = start.end_doc + m.writer.docs; end_byte = start.end_byte + (m.writer.bytes + 4 * m.writer.docs + 4) } in
     none end (record { doc = refl; byte = refl; few_docs = omega arith; few_bytes = omega arith; place = omega arith })

@@ -4,7 +4,7 @@ use Rattle.std.proofs.Common.{drop-drop}
 use Rattle.std.specs.Prelude.{slice_get}
 use Rattle.std.proofs.lemmas.Bool.{ltb-true, ltb-false}
 use Rattle.std.proofs.lemmas.List.{drop-set-lt}
-use Rattle.store_c.specs.declared.table_row.Block.{Block}
+use Rattle.layered_index.specs.declared.row.Row.{Row}
 use Rattle.store_c.specs.declared.place.Place.{Place}
 use Rattle.store_c.specs.Calls.{IsPlace, ArePlaces}
 use Rattle.store_c.specs.Getting.{IsPlaceIn, ArePlacesIn}
@@ -32,7 +32,7 @@ one_more_of P n ps p lt are is j below =
     ]) refl
 
 -- one more has its place, by a table
-pub one_more : (file : List ℕ) (table : List Block) (first n : ℕ) (ps : List Place) (p : Place) → n < length ps → ArePlaces file table first ps n
+pub one_more : (file : List ℕ) (table : List Row) (first n : ℕ) (ps : List Place) (p : Place) → n < length ps → ArePlaces file table first ps n
     → IsPlace file table (first + n) p → ArePlaces file table first (set ps n p) (n + 1)
 one_more file table first = one_more_of (λ j. IsPlace file table (first + j))
 

@@ -18,12 +18,14 @@ use Rattle.docstore.specs.Stacking.{shifted, with_store}
 use Rattle.docstore.specs.Writer.{Writing, blocks_of}
 use Rattle.docstore.proofs.ShiftedCheckpointLemmas.{shifted_after}
 use Rattle.docstore.proofs.TakenLemmas.{length-slots}
-use Rattle.store_c.specs.declared.table_row.Block.{Block}
-use Rattle.store_c.specs.declared.table_row.BlockEnd.{BlockEnd}
+use Rattle.layered_index.specs.declared.row.Row.{Row}
+use Rattle.layered_index.specs.declared.row.RowEnd.{RowEnd}
 use Rattle.store_c.specs.declared.writer.Writer.{Writer}
-use Rattle.store_c.specs.Calls.{end_of, ends_in, ends_of, ends_after, start_in, with_front}
+use Rattle.layered_index.specs.Rows.{end_of, ends_in, ends_of, start_in}
+use Rattle.store_c.specs.Calls.{ends_after, with_front}
 use Rattle.store_c.specs.Writing.{memory, Holds, PutsBlocks, IsOther, HasNumbersWith}
-use Rattle.store_c.proofs.TableLemmas.{zero_block, length-front}
+use Rattle.layered_index.proofs.RowLemmas.{zero_row}
+use Rattle.store_c.proofs.TableLemmas.{length-front}
 use Rattle.store_c.proofs.MemoryLemmas.{has_finished, open_at, none_pending}
 
 -- ---- blocks after others
@@ -34,12 +36,12 @@ pub in_line_after : (docs bytes : ℕ) (cs : List Checkpoint) (bs : List StoreBl
 in_line_after docs bytes cs bs is each few fits =
     subst (IsInLineFrom docs bytes) (sym (shifted_after docs bytes cs bs is)) (checkpoints_in_line_from docs bytes bs each few fits)
 
-ends_joined : (start : BlockEnd) (cs : List Checkpoint) → map (ends_after start) cs ≡ map ends_of (map (shifted start.end_doc start.end_byte) cs)
+ends_joined : (start : RowEnd) (cs : List Checkpoint) → map (ends_after start) cs ≡ map ends_of (map (shifted start.end_doc start.end_byte) cs)
 ends_joined start [] = refl
-ends_joined start (c ∷ cs) = ap (λ (bs : List BlockEnd). ends_after start c ∷ bs) (ends_joined start cs)
+ends_joined start (c ∷ cs) = ap (λ (bs : List RowEnd). ends_after start c ∷ bs) (ends_joined start cs)
 
 -- where they end
-ends_there : (start : BlockEnd) (cs : List Checkpoint) (bs : List StoreBlock) → cs ≡ checkpoints_of bs → map (ends_after start) cs ≡ map ends_of (checkpoints_from start.end_doc start.end_byte bs)
+ends_there : (start : RowEnd) (cs : List Checkpoint) (bs : List StoreBlock) → cs ≡ checkpoints_of bs → map (ends_after start) cs ≡ map ends_of (checkpoints_from start.end_doc start.end_byte bs)
 ends_there start cs bs is = ends_joined start cs ∙ ap (map ends_of) (shifted_after start.end_doc start.end_byte cs bs is)
 
 -- ---- a writer without an open block
@@ -52,52 +54,52 @@ without_documents w bs none =
     ap (λ (out : BlockOutput). record w { pending = []; output = with_blocks out bs }) nothing
 
 -- its table has the rows of its blocks
-pub rows_fit : (writer : Writer) (table : List Block) → length table < writer.blocks → IsOther writer table
+pub rows_fit : (writer : Writer) (table : List Row) → length table < writer.blocks → IsOther writer table
 rows_fit writer table short starts text w h =
     let size = length-map (checkpoints_of w.output.finished) ends_of in
     omega (arith, h.blocks, ap length h.rows, length-checkpoints 0 0 w.output.finished, size, length-take (length w.output.finished) (ends_in table), length-map table end_of)
 
 -- the documents after those of the rows can be numbered
-pub numbers_with : (view : Viewing) (writer : Writer) (table : List Block) (start : BlockEnd) → writer.docs ≡ 0 → start ≡ start_in zero_block (ends_in table) writer.blocks
+pub numbers_with : (view : Viewing) (writer : Writer) (table : List Row) (start : RowEnd) → writer.docs ≡ 0 → start ≡ start_in zero_row (ends_in table) writer.blocks
     → start.end_doc + count_in view < 2 ^ 32 → HasNumbersWith view writer table
 numbers_with view writer table start closed from few starts text w h =
     let m = memory writer starts table in
-    let doc = ap (λ (b : BlockEnd). b.end_doc) (from ∙ open_at m w (has_finished m text w h)) in
+    let doc = ap (λ (b : RowEnd). b.end_doc) (from ∙ open_at m w (has_finished m text w h)) in
     omega (arith, doc, few, closed, h.docs)
 
 -- ---- the table with more rows
 
 -- the rows so far, and those of more blocks written after them
-rows_written : (table mid ys rs : List BlockEnd) (from k n : ℕ) → from ≤ length table → ys ≡ with_front rs mid → length rs ≤ length ys → n ≡ from + length rs
+rows_written : (table mid ys rs : List RowEnd) (from k n : ℕ) → from ≤ length table → ys ≡ with_front rs mid → length rs ≤ length ys → n ≡ from + length rs
     → take n (put_mid from k table ys) ≡ take from table ++ rs
 rows_written table mid ys rs from k n fits is room size =
     let all = put_mid from k table ys in
     let rest = drop (length rs) mid in
     let end = from + length ys in
     let short : length rs ≤ length mid = omega (arith, ap length is, length-front rs mid) in
-    let parts : ys ≡ rs ++ rest = is ∙ ap (λ (xs : List BlockEnd). xs ++ rest) (take_all (length mid) rs short) in
+    let parts : ys ≡ rs ++ rest = is ∙ ap (λ (xs : List RowEnd). xs ++ rest) (take_all (length mid) rs short) in
     let cut : all ≡ (take from table ++ rs) ++ (rest ++ drop end all) =
     sym (take-append-drop end all)
-    ∙ ap (λ (xs : List BlockEnd). xs ++ drop end all)
-    (take-put_mid from k table ys end refl fits ∙ ap (λ (xs : List BlockEnd). take from table ++ xs) parts ∙ sym (append_assoc (take from table) rs rest))
+    ∙ ap (λ (xs : List RowEnd). xs ++ drop end all)
+    (take-put_mid from k table ys end refl fits ∙ ap (λ (xs : List RowEnd). take from table ++ xs) parts ∙ sym (append_assoc (take from table) rs rest))
     ∙ append_assoc (take from table ++ rs) rest (drop end all) in
     let len : n ≡ length (take from table ++ rs) = omega (arith, length-append (take from table) rs, length-take-le from table fits) in
     ap (λ (i : ℕ). take i all) len ∙ ap (take (length (take from table ++ rs))) cut ∙ take-append_seam (take from table ++ rs) (rest ++ drop end all)
 
 -- the ends of a table in which a part was written
-ends_written : (from k : ℕ) (table ys : List Block) → ends_in (put_mid from k table ys) ≡ put_mid from k (ends_in table) (ends_in ys)
+ends_written : (from k : ℕ) (table ys : List Row) → ends_in (put_mid from k table ys) ≡ put_mid from k (ends_in table) (ends_in ys)
 ends_written from k table ys =
     let rest = drop k (drop from table) in
     let same : map end_of rest ≡ drop k (drop from (ends_in table)) = sym (ap (drop k) (drop-map end_of from table) ∙ drop-map end_of k (drop from table)) in
-    map-append end_of (take from table) (ys ++ rest) ∙ (λ i. sym (take-map end_of from table) i ++ (map-append end_of ys rest ∙ ap (λ (xs : List BlockEnd). ends_in ys ++ xs) same) i)
+    map-append end_of (take from table) (ys ++ rest) ∙ (λ i. sym (take-map end_of from table) i ++ (map-append end_of ys rest ∙ ap (λ (xs : List RowEnd). ends_in ys ++ xs) same) i)
 
 -- the numbers with so many more blocks
 abbrev pub with_more : Writer → ℕ → Writer
 with_more writer count = record { block_size = writer.block_size; blocks = writer.blocks + count; docs = writer.docs; bytes = writer.bytes }
 
-module _ (writer : Writer) (table mid ys : List Block) (k count : ℕ) (start : BlockEnd) (cs : List Checkpoint) (view : Viewing)
+module _ (writer : Writer) (table mid ys : List Row) (k count : ℕ) (start : RowEnd) (cs : List Checkpoint) (view : Viewing)
     (store : IsStore view.period view.file (version_number view.version) view.store)
-    (are : cs ≡ checkpoints_of view.store) (closed : writer.docs ≡ 0) (fits : writer.blocks ≤ length table) (from : start ≡ start_in zero_block (ends_in table) writer.blocks)
+    (are : cs ≡ checkpoints_of view.store) (closed : writer.docs ≡ 0) (fits : writer.blocks ≤ length table) (from : start ≡ start_in zero_row (ends_in table) writer.blocks)
     (few : count_in view ≤ 4294967295 - start.end_doc) where
   -- what is known of a writer of this memory
   record Follows (text : List ℕ) (w : Writing) : Type 0 where
@@ -110,12 +112,12 @@ module _ (writer : Writer) (table mid ys : List Block) (k count : ℕ) (start : 
   following starts text w h =
       let m = memory writer starts table in
       let at = from ∙ open_at m w (has_finished m text w h) in
-      let doc = ap (λ (b : BlockEnd). b.end_doc) at in
+      let doc = ap (λ (b : RowEnd). b.end_doc) at in
       let finished = (h.sound.output.works h.works).blocks in
       record {
         none = none_pending w.pending (sym h.docs ∙ closed);
         doc = doc;
-        byte = ap (λ (b : BlockEnd). b.end_byte) at;
+        byte = ap (λ (b : RowEnd). b.end_byte) at;
         blocks = AreBlocks-append w.output.finished view.store finished store.blocks.each (omega (arith, doc, few, length-slots view.store, finished.few_docs));
       }
 

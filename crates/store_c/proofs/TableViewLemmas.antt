@@ -5,7 +5,7 @@ use Rattle.std.proofs.lemmas.Option.{slice_get_past}
 use Rattle.std.proofs.Math.Seq.{take-append_seam}
 use Rattle.store_base.proofs.ListLemmas.{length-slice}
 use Rattle.layered_index.specs.declared.checkpoint.Checkpoint.{Checkpoint}
-use Rattle.layered_index.specs.Checkpoint.{checkpoint, Covers, IsInLineFrom, bytes_end, docs_end, first_past}
+use Rattle.layered_index.specs.Checkpoint.{Covers, IsInLineFrom, bytes_end, docs_end, first_past}
 use Rattle.layered_index.specs.Layers.{index_part}
 use Rattle.layered_index.proofs.LineLemmas.{few_filled}
 use Rattle.store_base.proofs.Ranges.{part_of_part}
@@ -17,9 +17,10 @@ use Rattle.store_format.proofs.StoreLemmas.{blocks_from, checkpoints_cover}
 use Rattle.store_reader.specs.Viewing.{Viewing, IsView, IsViewOf, count_in, data_in}
 use Rattle.store_reader.proofs.SeekLemmas.{IsWithin, within}
 use Rattle.store_reader.proofs.ViewLemmas.{count_is, seek_stays, slot_none, slot_placed}
-use Rattle.store_c.specs.declared.table_row.Block.{Block}
+use Rattle.layered_index.specs.declared.row.Row.{Row}
 use Rattle.store_c.specs.declared.place.Place.{Place}
-use Rattle.store_c.specs.Calls.{ends_of, ends_in, IsTableOf, HasSlot, IsPlace, IsTableBlock}
+use Rattle.layered_index.specs.Rows.{ends_of, ends_in}
+use Rattle.store_c.specs.Calls.{IsTableOf, HasSlot, IsPlace, IsTableBlock}
 
 -- ---- the parts of a file
 
@@ -98,12 +99,12 @@ module _ (file : List ℕ) (v : Viewing) (of : IsViewOf file v) where
 -- ---- places in any bytes, by any table
 
 -- what a seek in the table finds is what one in the store's checkpoints does
-pub sought : (file : List ℕ) (table : List Block) (id : ℕ) (o : Option Checkpoint) → ((cs : List Checkpoint) → ends_in table ≡ map ends_of cs → IsInLineFrom 0 0 cs → o ≡ first_past cs id)
+pub sought : (file : List ℕ) (table : List Row) (id : ℕ) (o : Option Checkpoint) → ((cs : List Checkpoint) → ends_in table ≡ map ends_of cs → IsInLineFrom 0 0 cs → o ≡ first_past cs id)
     → (known : IsTableOf file table) → first_past (checkpoints_of known.view.store) id ≡ o
 sought file table id o e known = sym (e _ known.ends (in_line file known.view known.of))
 
 -- what a seek finds is the block of each of its documents
-pub table_block : (file : List ℕ) (table : List Block) (id : ℕ) (c : Checkpoint) → c.byte_range.start ≤ c.byte_range.end → c.byte_range.end ≤ length file
+pub table_block : (file : List ℕ) (table : List Row) (id : ℕ) (c : Checkpoint) → c.byte_range.start ≤ c.byte_range.end → c.byte_range.end ≤ length file
     → ((known : IsTableOf file table) → first_past (checkpoints_of known.view.store) id ≡ Some c) → IsTableBlock file table c
 table_block file table id c order end seeks = record {
   order = order;
@@ -112,7 +113,7 @@ table_block file table id c order end seeks = record {
 }
 
 -- the place of a document in the file, from that in its block
-pub lies : (file : List ℕ) (table : List Block) (id from to : ℕ) (c : Checkpoint) (p : Place) → ((known : IsTableOf file table) → first_past (checkpoints_of known.view.store) id ≡ Some c)
+pub lies : (file : List ℕ) (table : List Row) (id from to : ℕ) (c : Checkpoint) (p : Place) → ((known : IsTableOf file table) → first_past (checkpoints_of known.view.store) id ≡ Some c)
     → c.byte_range.start ≤ c.byte_range.end → c.byte_range.end ≤ length file
     → p.start ≡ c.byte_range.start + from → p.len ≡ to - from → from ≤ to → to ≤ length (slice_range file c.byte_range.start c.byte_range.end)
     → slot (slice_range file c.byte_range.start c.byte_range.end) (id - c.doc_range.start) ≡ doc (slice_range (slice_range file c.byte_range.start c.byte_range.end) from to)

@@ -10,7 +10,7 @@ use Rattle.store_reader.specs.Opening.{IsSomeStore}
 use Rattle.store_format.specs.declared.version.DocStoreVersion.TheVariants.{V1}
 use Rattle.store_reader.specs.Viewing.{Viewing, IsViewOf, Finds, count_in}
 use Rattle.docstore.specs.Writer.{Writing, IsTooLarge, num_docs}
-use Rattle.store_c.specs.declared.table_row.Block.{Block}
+use Rattle.layered_index.specs.declared.row.Row.{Row}
 use Rattle.store_c.specs.declared.writer.Writer.{Writer}
 use Rattle.store_c.specs.declared.writer_refusal.WriterRefusal.{WriterRefusal}
 use Rattle.store_c.specs.declared.writer_refusal.WriterRefusal.TheVariants.{NoMemory, OldVersion, BlockTooLarge, TooManyDocs, BadPeriod, NoRoom, OpenBlock, OtherWriter}
@@ -102,7 +102,7 @@ ended_somewhere m (inr t) x = x.2 t.1.0 t.1.1
 here : (file : List ℕ) (view : Viewing) (Why : Viewing → Type 0) → IsViewOf file view → RefusesStore file Why → Why view
 here file view Why of r = subst Why (same_view file r.view view r.of of) r.why
 
-module _ (file : List ℕ) (view : Viewing) (of : IsViewOf file view) (writer : Writer) (table : List Block) (result : ℕ) where
+module _ (file : List ℕ) (view : Viewing) (of : IsViewOf file view) (writer : Writer) (table : List Row) (result : ℕ) where
   comes : (n : ℕ) (Why : Viewing → Type 0) → result ≡ n → Why view → ComesFor n result file Why
   comes n Why is why kept = (λ _. record { view = view; of = of; why = why }, λ _. is)
 

@@ -1,9 +1,10 @@
 -- What the calls of C are answered.
-use Rattle.std.specs.Prelude.{◌≡◌, ◌⊎◌, ℕ, zero, suc, ◌+◌, ◌<◌, ◌≤◌, List, [], ◌∷◌, ◌++◌}
+use Rattle.std.specs.Prelude.{◌≡◌, ◌⊎◌, ℕ, ◌+◌, ◌<◌, ◌≤◌, List, ◌++◌}
 use Rattle.std.specs.Prelude.{length, take, drop, map}
 use Rattle.std.specs.Prelude.{slice_get, slice_range, Option, Some, None, IfSome}
 use Rattle.layered_index.specs.declared.checkpoint.Checkpoint.{Checkpoint}
 use Rattle.layered_index.specs.Checkpoint.{first_past}
+use Rattle.layered_index.specs.Rows.{ends_in, ends_of}
 use Rattle.store_base.specs.Outcome.{number_of}
 use Rattle.store_base.specs.declared.error.StoreError.{StoreError}
 use Rattle.store_format.specs.Block.{Slot, doc, damaged}
@@ -11,8 +12,8 @@ use Rattle.store_format.specs.StoreFile.{checkpoints_of}
 use Rattle.store_reader.specs.Opening.{IsSomeStore}
 use Rattle.store_reader.specs.Viewing.{Viewing, IsViewOf, Finds, slot_of, count_in}
 use Rattle.std.specs.declared.result.Result.TheVariants.{Err}
-use Rattle.store_c.specs.declared.table_row.Block.{Block}
-use Rattle.store_c.specs.declared.table_row.BlockEnd.{BlockEnd}
+use Rattle.layered_index.specs.declared.row.Row.{Row}
+use Rattle.layered_index.specs.declared.row.RowEnd.{RowEnd}
 use Rattle.store_c.specs.declared.place.Place.{Place}
 use Rattle.store_c.specs.declared.refusal.Refusal.{Refusal}
 use Rattle.store_c.specs.declared.refusal.Refusal.TheVariants.{NoDocument, Damaged, NoRoom, OtherTable}
@@ -20,48 +21,26 @@ use Rattle.store_c.specs.declared.refusal.Refusal.TheVariants.{TailTooShort, Oth
 
 -- ---- tables
 
--- where the block of a row ends
-abbrev pub end_of : Block → BlockEnd
-end_of row = record { end_doc = row.end_doc; end_byte = row.end_byte }
-
--- the row of a block that ends here, with no guide
-abbrev pub row_of : BlockEnd → Block
-row_of end = record { end_doc = end.end_doc; guide = 0; end_byte = end.end_byte }
-
--- where the blocks of a table end: all that it says, whatever its guides are
-abbrev pub ends_in : List Block → List BlockEnd
-ends_in table = map end_of table
-
--- where a block ends
-abbrev pub ends_of : Checkpoint → BlockEnd
-ends_of c = record { end_doc = c.doc_range.end; end_byte = c.byte_range.end }
-
--- where it ends after this place
-abbrev pub ends_after : BlockEnd → Checkpoint → BlockEnd
+-- where a block ends after this place
+abbrev pub ends_after : RowEnd → Checkpoint → RowEnd
 ends_after start c = record {
   end_doc = c.doc_range.end + start.end_doc;
   end_byte = c.byte_range.end + start.end_byte;
 }
 
--- where the block at a position begins: at the end of the one before it, the first one here
-abbrev pub start_in : BlockEnd → List BlockEnd → ℕ → BlockEnd
-start_in start ends zero = start
-start_in start [] (suc at) = start
-start_in start (end ∷ ends) (suc at) = start_in end ends at
-
 -- ends written over the front of these, as far as there is room
-abbrev pub with_front : List BlockEnd → List BlockEnd → List BlockEnd
+abbrev pub with_front : List RowEnd → List RowEnd → List RowEnd
 with_front ends old = take (length old) ends ++ drop (length ends) old
 
 -- These bytes are the file of a store, and this is the table of its blocks.
-pub record IsTableOf (file : List ℕ) (table : List Block) : Type 0 where
+pub record IsTableOf (file : List ℕ) (table : List Row) : Type 0 where
   pub view : Viewing
   pub of : IsViewOf file view
   pub ends : ends_in table ≡ map ends_of (checkpoints_of view.store)
 
 -- These bytes are the file of a store, which has this many blocks and documents. Its table goes over the front of this
 -- one, and the rows after it stay.
-pub record Fills (file : List ℕ) (old new : List Block) (count num_docs : ℕ) : Type 0 where
+pub record Fills (file : List ℕ) (old new : List Row) (count num_docs : ℕ) : Type 0 where
   pub view : Viewing
   pub of : IsViewOf file view
   pub blocks : count ≡ length (checkpoints_of view.store)
@@ -96,19 +75,19 @@ pub record HasSlot (file : List ℕ) (id : ℕ) (s : Option Slot) : Type 0 where
   pub slot : slot_of view id ≡ s
 
 -- A part of these bytes. It is the block of each of these documents, if the table is theirs.
-pub record IsTableBlock (file : List ℕ) (table : List Block) (c : Checkpoint) : Type 0 where
+pub record IsTableBlock (file : List ℕ) (table : List Row) (c : Checkpoint) : Type 0 where
   pub order : c.byte_range.start ≤ c.byte_range.end
   pub within : c.byte_range.end ≤ length file
   pub sought : (known : IsTableOf file table) → (id : ℕ) → c.doc_range.start ≤ id → id < c.doc_range.end
       → first_past (checkpoints_of known.view.store) id ≡ Some c
 
 -- A part of these bytes. It is the document of this number, if the table is theirs.
-pub record IsPlace (file : List ℕ) (table : List Block) (id : ℕ) (p : Place) : Type 0 where
+pub record IsPlace (file : List ℕ) (table : List Row) (id : ℕ) (p : Place) : Type 0 where
   pub within : p.start + p.len ≤ length file
   pub document : IsTableOf file table → HasSlot file id (Some (doc (slice_range file p.start (p.start + p.len))))
 
 -- The first of these are the places of documents, one after the other from this number on.
-abbrev pub ArePlaces : List ℕ → List Block → ℕ → List Place → ℕ → Type 0
+abbrev pub ArePlaces : List ℕ → List Row → ℕ → List Place → ℕ → Type 0
 ArePlaces file table first places count =
     (j : ℕ) → j < count → IfSome (slice_get places j) (IsPlace file table (first + j))
 
@@ -122,7 +101,7 @@ refusal_number TailTooShort = 36
 refusal_number OtherBlock = 37
 
 -- why there is no document, if the table is that of these bytes; or it is not
-abbrev pub RefusesDocument : List ℕ → List Block → ℕ → Refusal → Type 0
+abbrev pub RefusesDocument : List ℕ → List Row → ℕ → Refusal → Type 0
 RefusesDocument file table id NoDocument = IsTableOf file table → HasSlot file id None
 RefusesDocument file table id Damaged = IsTableOf file table → HasSlot file id (Some damaged)
 RefusesDocument file table id OtherTable = IsTableOf file table → ⊥

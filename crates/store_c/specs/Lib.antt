@@ -1,5 +1,6 @@
 pub mod Calls
 pub mod Getting
+pub mod Outlines
 pub mod Ranges
 pub mod Texts
 pub mod Writing

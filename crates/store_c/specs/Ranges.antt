@@ -1,9 +1,8 @@
 -- What the calls are answered that read parts of a file which lies elsewhere.
 use Rattle.std.specs.Prelude.{◌⊎◌, ◌≢◌, ℕ, ◌+◌, ◌<◌, ◌≤◌, ◌^◌, List, length, slice_range}
-use Rattle.store_base.specs.declared.error.StoreError.{StoreError}
 use Rattle.store_reader.specs.StoreTails.{IsTailOf}
 use Rattle.store_c.specs.declared.block_place.BlockPlace.{BlockPlace}
-use Rattle.store_c.specs.Getting.{HasBlock, IsRefusedIn, RefusesUnopened}
+use Rattle.store_c.specs.Getting.{HasBlock, RefusesUnopened}
 
 -- These bytes are a part of the file. They are the block of each of these documents, if it is the file of a store.
 abbrev pub HasBlockAt : List ℕ → BlockPlace → List ℕ → Type 0

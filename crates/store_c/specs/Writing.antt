@@ -17,14 +17,14 @@ use Rattle.docstore.specs.BlockOutput.{new_output}
 use Rattle.docstore.specs.Writer.{Writing, IsStoreWriter, IsTooLarge, new_writing, num_docs, flushed}
 use Rattle.docstore.specs.Writer.{with_document}
 use Rattle.docstore.specs.Stacking.{with_store}
-use Rattle.store_c.specs.declared.table_row.Block.{Block}
-use Rattle.store_c.specs.declared.table_row.BlockEnd.{BlockEnd}
+use Rattle.layered_index.specs.declared.row.Row.{Row}
+use Rattle.layered_index.specs.declared.row.RowEnd.{RowEnd}
 use Rattle.store_c.specs.declared.writer.Writer.{Writer}
 use Rattle.store_c.specs.declared.writer_refusal.WriterRefusal.{WriterRefusal}
 use Rattle.store_c.specs.declared.writer_refusal.WriterRefusal.TheVariants.{NoMemory, OldVersion, BlockTooLarge}
 use Rattle.store_c.specs.declared.writer_refusal.WriterRefusal.TheVariants.{TooManyDocs, NoRoom, OpenBlock}
 use Rattle.store_c.specs.declared.writer_refusal.WriterRefusal.TheVariants.{OtherWriter, BadPeriod}
-use Rattle.store_c.specs.Calls.{ends_of, ends_in, start_in}
+use Rattle.layered_index.specs.Rows.{ends_of, ends_in, start_in}
 
 -- ---- memory
 
@@ -32,9 +32,9 @@ use Rattle.store_c.specs.Calls.{ends_of, ends_in, start_in}
 pub record Memory : Type 0 where
   pub writer : Writer
   pub starts : List ℕ
-  pub table : List Block
+  pub table : List Row
 
-abbrev pub memory : Writer → List ℕ → List Block → Memory
+abbrev pub memory : Writer → List ℕ → List Row → Memory
 memory writer starts table = record { writer = writer; starts = starts; table = table }
 
 -- It is the memory of a writer in this state, once these bytes were written.
@@ -56,7 +56,7 @@ pub record Holds (m : Memory) (text : List ℕ) (w : Writing) : Type 0 where
 -- whatever else it has, it is the memory of a writer of nothing yet
 abbrev pub Begins : ℕ → Writer → Type 0
 Begins block_size writer =
-    (starts : List ℕ) (table : List Block) (compressor : Compressor) (period : ℕ) (termination : Termination)
+    (starts : List ℕ) (table : List Row) (compressor : Compressor) (period : ℕ) (termination : Termination)
     (failures : ℕ) → 2 ≤ period → period ≤ 64 → Holds (memory writer starts table) []
     (new_writing block_size (new_output compressor period [] termination failures))
 
@@ -77,14 +77,14 @@ EndsBlock count old new =
     → Holds new (written ++ bytes_of count new.starts) (flushed w)
 
 -- The blocks of a store are put after the others, once its data is written.
-abbrev pub PutsBlocks : Viewing → Writer → List Block → Writer → List Block → Type 0
+abbrev pub PutsBlocks : Viewing → Writer → List Row → Writer → List Row → Type 0
 PutsBlocks view old_writer old_table new_writer new_table =
     (starts : List ℕ) (written : List ℕ) (w : Writing) → Holds (memory old_writer starts old_table) written w
     → Holds (memory new_writer starts new_table) (written ++ data_of view.store) (with_store w view.store)
 
 -- These bytes are the file of a store that can be stacked, whose data are the first of them.
-pub record PutsStore (bytes : List ℕ) (len count : ℕ) (old_writer : Writer) (old_table : List Block)
-    (new_writer : Writer) (new_table : List Block) : Type 0 where
+pub record PutsStore (bytes : List ℕ) (len count : ℕ) (old_writer : Writer) (old_table : List Row)
+    (new_writer : Writer) (new_table : List Row) : Type 0 where
   pub view : Viewing
   pub of : IsViewOf bytes view
   pub version : view.version ≢ V1
@@ -100,21 +100,21 @@ pub record IsFileOf (period : ℕ) (bytes : List ℕ) (w : Writing) : Type 0 whe
   pub store : IsStore period bytes 3 w.output.finished
 
 -- These bytes are the index and the footer of blocks that end so.
-pub record IsEndOf (period : ℕ) (ends : List BlockEnd) (end : List ℕ) : Type 0 where
+pub record IsEndOf (period : ℕ) (ends : List RowEnd) (end : List ℕ) : Type 0 where
   pub checkpoints : List Checkpoint
   pub in_line : IsInLineFrom 0 0 checkpoints
   pub ends_are : ends ≡ map ends_of checkpoints
   pub is : end ≡ index_part period checkpoints ++ footer 3 (bytes_end 0 checkpoints) 0 (reserved_of period 3)
 
 -- After what was written these bytes make the file.
-abbrev pub EndsFile : ℕ → List ℕ → Writer → List Block → Type 0
+abbrev pub EndsFile : ℕ → List ℕ → Writer → List Row → Type 0
 EndsFile period end writer table =
     (starts : List ℕ) (written : List ℕ) (w : Writing) → Holds (memory writer starts table) written w
     → IsFileOf period (written ++ end) w
 
 -- What makes the file after what was written has this length: the index and the footer of the writer's rows, where no
 -- block is open.
-pub record HasEnd (period len : ℕ) (writer : Writer) (table : List Block) : Type 0 where
+pub record HasEnd (period len : ℕ) (writer : Writer) (table : List Row) : Type 0 where
   pub least : 2 ≤ period
   pub most : period ≤ 64
   pub none_open : writer.docs ≡ 0
@@ -148,18 +148,18 @@ abbrev pub HasNoNumber : Memory → Type 0
 HasNoNumber m = (written : List ℕ) (w : Writing) → Holds m written w → num_docs w ≡ 2 ^ 32 - 1
 
 -- It is no writer's memory.
-abbrev pub IsOther : Writer → List Block → Type 0
+abbrev pub IsOther : Writer → List Row → Type 0
 IsOther writer table =
     (starts : List ℕ) (written : List ℕ) (w : Writing) → Holds (memory writer starts table) written w → ⊥
 
 -- The documents of both can't be numbered.
-abbrev pub HasTooManyWith : Viewing → Writer → List Block → Type 0
+abbrev pub HasTooManyWith : Viewing → Writer → List Row → Type 0
 HasTooManyWith view writer table =
     (starts : List ℕ) (written : List ℕ) (w : Writing) → Holds (memory writer starts table) written w
     → 2 ^ 32 ≤ num_docs w + count_in view
 
 -- A block that begins here and has this many documents of this many bytes ends here, and has its place in 32 bits.
-pub record EndsBlockAt (start : BlockEnd) (docs bytes : ℕ) (end : BlockEnd) : Type 0 where
+pub record EndsBlockAt (start : RowEnd) (docs bytes : ℕ) (end : RowEnd) : Type 0 where
   pub doc : end.end_doc ≡ start.end_doc + docs
   pub byte : end.end_byte ≡ start.end_byte + (bytes + 4 * docs + 4)
   pub few_docs : start.end_doc + docs < 2 ^ 32
@@ -167,12 +167,12 @@ pub record EndsBlockAt (start : BlockEnd) (docs bytes : ℕ) (end : BlockEnd) : 
   pub place : end.end_byte < 2 ^ 64
 
 -- where the open block begins
-abbrev pub open_start : Memory → BlockEnd
+abbrev pub open_start : Memory → RowEnd
 open_start m = start_in (record { end_doc = 0; end_byte = 0 }) (ends_in m.table) m.writer.blocks
 
 -- The open block ends nowhere.
 abbrev pub HasNoEnd : Memory → Type 0
-HasNoEnd m = (end : BlockEnd) → EndsBlockAt (open_start m) m.writer.docs m.writer.bytes end → ⊥
+HasNoEnd m = (end : RowEnd) → EndsBlockAt (open_start m) m.writer.docs m.writer.bytes end → ⊥
 
 -- There is no room for this many more starts, or for one more row.
 abbrev pub LacksRoom : ℕ → Memory → Type 0
@@ -205,7 +205,7 @@ RefusesBlock m _ = ⊥
 -- There is no open block; or there is room for its table and one more row, and a place at which it ends.
 abbrev pub TakesBlock : Memory → Type 0
 TakesBlock m = (m.writer.docs ≡ 0)
-    ⊎ (HasRoom 1 m × ((end : BlockEnd) × EndsBlockAt (open_start m) m.writer.docs m.writer.bytes end))
+    ⊎ (HasRoom 1 m × ((end : RowEnd) × EndsBlockAt (open_start m) m.writer.docs m.writer.bytes end))
 
 -- These bytes are the file of a store, and this is so of it.
 pub record RefusesStore (bytes : List ℕ) (Why : Viewing → Type 0) : Type 0 where
@@ -222,13 +222,13 @@ abbrev pub MayFollow : Viewing → Writer → Type 0
 MayFollow view writer = (view.version ≢ V1) × (writer.docs ≡ 0)
 
 -- The documents of both can be numbered.
-abbrev pub HasNumbersWith : Viewing → Writer → List Block → Type 0
+abbrev pub HasNumbersWith : Viewing → Writer → List Row → Type 0
 HasNumbersWith view writer table =
     (starts : List ℕ) (written : List ℕ) (w : Writing) → Holds (memory writer starts table) written w
     → num_docs w + count_in view < 2 ^ 32
 
 -- why the blocks of a store aren't put after these: the first of the causes
-abbrev pub RefusesBlocks : Viewing → Writer → List Block → WriterRefusal → Type 0
+abbrev pub RefusesBlocks : Viewing → Writer → List Row → WriterRefusal → Type 0
 RefusesBlocks view writer table OldVersion = view.version ≡ V1
 RefusesBlocks view writer table OpenBlock = (view.version ≢ V1) × (0 < writer.docs)
 RefusesBlocks view writer table TooManyDocs = MayFollow view writer × HasTooManyWith view writer table
@@ -239,7 +239,7 @@ RefusesBlocks view writer table NoRoom =
 RefusesBlocks view writer table _ = ⊥
 
 -- The blocks of a store may follow these: they have numbers, and there is room for their rows.
-pub record TakesBlocks (view : Viewing) (writer : Writer) (table : List Block) : Type 0 where
+pub record TakesBlocks (view : Viewing) (writer : Writer) (table : List Row) : Type 0 where
   pub may : MayFollow view writer
   pub numbers : HasNumbersWith view writer table
   pub room : writer.blocks + length (checkpoints_of view.store) ≤ length table
@@ -247,7 +247,7 @@ pub record TakesBlocks (view : Viewing) (writer : Writer) (table : List Block) :
 -- ---- blocks and their ends
 
 -- why there is no such place
-abbrev pub RefusesEnd : BlockEnd → ℕ → ℕ → WriterRefusal → Type 0
+abbrev pub RefusesEnd : RowEnd → ℕ → ℕ → WriterRefusal → Type 0
 RefusesEnd start docs bytes TooManyDocs = 2 ^ 32 ≤ start.end_doc + docs
 RefusesEnd start docs bytes BlockTooLarge =
     (start.end_doc + docs < 2 ^ 32)
@@ -255,17 +255,17 @@ RefusesEnd start docs bytes BlockTooLarge =
 RefusesEnd start docs bytes _ = ⊥
 
 -- from the one end to the other
-abbrev pub between : BlockEnd → BlockEnd → Checkpoint
+abbrev pub between : RowEnd → RowEnd → Checkpoint
 between start end = checkpoint start.end_doc end.end_doc start.end_byte end.end_byte
 
 -- the index of blocks that end so
-pub record IndexesEnds (period : ℕ) (ends : List BlockEnd) (index : Index) : Type 0 where
+pub record IndexesEnds (period : ℕ) (ends : List RowEnd) (index : Index) : Type 0 where
   pub period_is : index.period ≡ period
   pub ends_are : map ends_of index.checkpoints ≡ ends
   pub in_line : IsInLineFrom 0 0 index.checkpoints
 
 -- why there is no index: no blocks end so, or memory ran out
-abbrev pub RefusesIndex : List BlockEnd → WriterRefusal → Type 0
+abbrev pub RefusesIndex : List RowEnd → WriterRefusal → Type 0
 RefusesIndex ends OtherWriter = (cs : List Checkpoint) → IsInLineFrom 0 0 cs → ends ≡ map ends_of cs → ⊥
 RefusesIndex ends NoMemory = Unit {0}
 RefusesIndex ends _ = ⊥

@@ -1,20 +1,19 @@
 //! The end of a file: the index of its blocks, and its footer.
 ghost use Rattle.std.specs.Prelude.{◌≡◌, ◌≤◌, IfOk, IfErr, MatchOption};
 ghost use Rattle.layered_index.specs.Checkpoint.{IsWithinLimits};
-ghost use Rattle.store_c.specs.Calls.{ends_in};
+ghost use Rattle.layered_index.specs.Rows.{ends_in};
 ghost use Rattle.store_c.specs.Writing.{between, IndexesEnds, IsEndOf, RefusesIndex};
 
-use crate::table::start_of;
-use crate::table_row::{Block, BlockEnd};
 use crate::writer_refusal::WriterRefusal;
 use docstore::{
     BLOCK_LIMIT, BinarySerializable, Checkpoint, DOC_STORE_VERSION, Decompressor, DocStoreFooter,
-    MemSink, SkipIndexBuilder,
+    MemSink, Row, SkipIndexBuilder,
 };
+use layered_index::{RowEnd, start_of};
 use std::alloc::Global;
 
 // The checkpoint of a block from the one end to the other, if a block can be so.
-fn checkpoint_between(start: BlockEnd, end: BlockEnd) -> Option<Checkpoint>
+fn checkpoint_between(start: RowEnd, end: RowEnd) -> Option<Checkpoint>
     ensures { MatchOption result (IsWithinLimits (between start end) → ⊥)
         (λ c. (c ≡ between start end) × IsWithinLimits c) }
 {
@@ -31,14 +30,14 @@ fn checkpoint_between(start: BlockEnd, end: BlockEnd) -> Option<Checkpoint>
 }
 
 // The index of the blocks that end so.
-fn index_of(alloc: Global, ends: &[Block], period: u8) -> Result<SkipIndexBuilder, WriterRefusal>
+fn index_of(alloc: Global, ends: &[Row], period: u8) -> Result<SkipIndexBuilder, WriterRefusal>
     requires least { 2 ≤ period }
     requires most { period ≤ 64 }
     ensures index { IfOk result (IndexesEnds period (ends_in ends.now)) }
     ensures refused { IfErr result (RefusesIndex (ends_in ends.now)) }
 {
     let mut index = SkipIndexBuilder::with_period(alloc, period);
-    let mut start = BlockEnd::ZERO;
+    let mut start = RowEnd::ZERO;
     for row in ends {
         let end = row.end();
         let Some(checkpoint) = checkpoint_between(start, end) else {
@@ -53,11 +52,7 @@ fn index_of(alloc: Global, ends: &[Block], period: u8) -> Result<SkipIndexBuilde
 }
 
 /// What follows blocks that end so: their index and the footer.
-pub(crate) fn end_of_file(
-    alloc: Global,
-    ends: &[Block],
-    period: u8,
-) -> Result<Vec<u8>, WriterRefusal>
+pub(crate) fn end_of_file(alloc: Global, ends: &[Row], period: u8) -> Result<Vec<u8>, WriterRefusal>
     requires least { 2 ≤ period }
     requires most { period ≤ 64 }
     ensures end { IfOk result (λ end. IsEndOf period (ends_in ends.now) end.items) }

@@ -1,25 +1,22 @@
 //! Where documents lie, by the table of their store's blocks.
 ghost use Rattle.std.specs.Prelude.{◌≡◌, ◌+◌, ◌≤◌, ◌<◌, List, length, drop, map, IfOk, MatchOption, MatchResult};
-ghost use Rattle.layered_index.specs.declared.checkpoint.Checkpoint.{Checkpoint as CheckpointOf};
-ghost use Rattle.layered_index.specs.Checkpoint.{docs_end};
-ghost use Rattle.store_c.specs.Calls.{ends_of, ends_in, IsPlace, ArePlaces, IsTableBlock, RefusesDocument};
-ghost use Rattle.store_c.specs.declared.table_row.Block.{Block as BlockOf};
+ghost use Rattle.layered_index.specs.declared.row.Row.{Row as RowOf};
+ghost use Rattle.store_c.specs.Calls.{IsPlace, ArePlaces, IsTableBlock, RefusesDocument};
 
 use crate::place::Place;
 use crate::refusal::Refusal;
-use crate::seeking::seek;
-use crate::table::num_docs;
-use crate::table_row::Block;
-use docstore::{Checkpoint, DocId, likely_read_index};
+use docstore::{Checkpoint, DocId, Row, Steps, likely_read_index};
+use layered_index::{docs_of, seek_rows};
 use store_format::part;
 
 // The block that has a document, by the table.
-fn block_of(file: &[u8], table: &[Block], doc_id: DocId) -> Result<Checkpoint, Refusal>
+fn block_of(file: &[u8], table: &[Row], doc_id: DocId) -> Result<Checkpoint, Refusal>
     ensures block { MatchResult result (IsTableBlock file.now table.now) (RefusesDocument file.now table.now doc_id) }
     ensures from { IfOk result (λ c. c.doc_range.start ≤ doc_id) }
     ensures to { IfOk result (λ c. doc_id < c.doc_range.end) }
 {
-    let Some(checkpoint) = seek(table, doc_id) else {
+    let mut steps = Steps::new();
+    let Some(checkpoint) = seek_rows(table, doc_id, &mut steps) else {
         return Err(Refusal::NoDocument);
     };
     if doc_id < checkpoint.doc_range.start || checkpoint.doc_range.end <= doc_id {
@@ -40,7 +37,7 @@ fn place_in(file: &[u8], block: &Checkpoint, doc_id: DocId) -> Result<Place, Ref
     requires to { doc_id < block.now.doc_range.end }
     requires order { block.now.byte_range.start ≤ block.now.byte_range.end }
     requires within { block.now.byte_range.end ≤ length file.now }
-    ensures { (table : List BlockOf) → IsTableBlock file.now table block.now
+    ensures { (table : List RowOf) → IsTableBlock file.now table block.now
         → MatchResult result (IsPlace file.now table doc_id) (RefusesDocument file.now table doc_id) }
 {
     let docs = &block.doc_range;
@@ -56,7 +53,7 @@ fn place_in(file: &[u8], block: &Checkpoint, doc_id: DocId) -> Result<Place, Ref
 }
 
 /// Where a document lies in the file.
-pub(crate) fn place_of(file: &[u8], table: &[Block], doc_id: DocId) -> Result<Place, Refusal>
+pub(crate) fn place_of(file: &[u8], table: &[Row], doc_id: DocId) -> Result<Place, Refusal>
     ensures { MatchResult result (IsPlace file.now table.now doc_id)
         (RefusesDocument file.now table.now doc_id) }
 {
@@ -68,7 +65,7 @@ pub(crate) fn place_of(file: &[u8], table: &[Block], doc_id: DocId) -> Result<Pl
 #[inline(always)]
 fn block_for(
     file: &[u8],
-    table: &[Block],
+    table: &[Row],
     block: Checkpoint,
     doc_id: DocId,
 ) -> Result<Checkpoint, Refusal>
@@ -88,7 +85,7 @@ fn block_for(
 /// refused. It returns how many were found, and that refusal. It seeks once for each block.
 pub(crate) fn places_from(
     file: &[u8],
-    table: &[Block],
+    table: &[Row],
     first: DocId,
     places: &mut [Place],
 ) -> (usize, Option<Refusal>)
@@ -98,7 +95,7 @@ pub(crate) fn places_from(
         (λ e. (result.0 < length places.old) × RefusesDocument file.now table.now (first + result.0) e) }
     ensures kept { drop result.0 places.new ≡ drop result.0 places.old }
 {
-    let left = num_docs(table).saturating_sub(first) as usize;
+    let left = docs_of(table).saturating_sub(first) as usize;
     let room = places.len().min(left);
     let mut block = Checkpoint {
         doc_range: 0..0,

@@ -1,17 +1,16 @@
 //! The open block of a store that is written.
 ghost use Rattle.std.specs.Prelude.{◌≡◌, ◌+◌, ◌*◌, ◌<◌, ◌≤◌, ◌^◌, ◌⊎◌, length, set, IfOk, IfErr, OnOk, OnErr};
-ghost use Rattle.store_c.specs.Calls.{row_of};
+ghost use Rattle.layered_index.specs.Rows.{row_of};
 ghost use Rattle.store_c.specs.Writing.{memory, EndsBlockAt, RefusesEnd, PutsDocument, EndsBlock};
 ghost use Rattle.store_c.specs.Writing.{RefusesLength, TakesLength, RefusesBlock, TakesBlock};
 
-use crate::table::start_of;
-use crate::table_row::{Block, BlockEnd};
 use crate::writer::Writer;
 use crate::writer_refusal::WriterRefusal;
-use docstore::{block_len, table_len, weight_of};
+use docstore::{Row, block_len, table_len, weight_of};
+use layered_index::{RowEnd, start_of};
 
 /// Where a block ends that begins here and has this many documents and bytes.
-pub(crate) fn end_of(start: BlockEnd, docs: usize, bytes: usize) -> Result<BlockEnd, WriterRefusal>
+pub(crate) fn end_of(start: RowEnd, docs: usize, bytes: usize) -> Result<RowEnd, WriterRefusal>
     requires few { docs < 2 ^ 61 }
     ensures end { IfOk result (EndsBlockAt start docs bytes) }
     ensures refused { IfErr result (RefusesEnd start docs bytes) }
@@ -24,7 +23,7 @@ pub(crate) fn end_of(start: BlockEnd, docs: usize, bytes: usize) -> Result<Block
         return Err(WriterRefusal::BlockTooLarge);
     };
     match start.end_byte.checked_add(len) {
-        Some(end_byte) => Ok(BlockEnd {
+        Some(end_byte) => Ok(RowEnd {
             end_doc: end_doc as u32,
             end_byte,
         }),
@@ -37,8 +36,8 @@ pub(crate) fn end_of(start: BlockEnd, docs: usize, bytes: usize) -> Result<Block
 pub(crate) fn finish(
     writer: &mut Writer,
     starts: &mut [u32],
-    table: &mut [Block],
-    end: BlockEnd,
+    table: &mut [Row],
+    end: RowEnd,
 ) -> usize
     requires docs { writer.old.docs < length starts.old }
     requires few { writer.old.docs < 2 ^ 32 }
@@ -55,7 +54,7 @@ pub(crate) fn finish(
 {
     let docs = writer.docs;
     starts[docs] = docs as u32;
-    table[writer.blocks] = Block::new(end);
+    table[writer.blocks] = Row::new(end);
     writer.blocks += 1;
     writer.docs = 0;
     writer.bytes = 0;
@@ -66,7 +65,7 @@ pub(crate) fn finish(
 pub(crate) fn put(
     writer: &mut Writer,
     starts: &mut [u32],
-    table: &mut [Block],
+    table: &mut [Row],
     len: usize,
 ) -> Result<usize, WriterRefusal>
     ensures put { IfOk result (λ count. PutsDocument len count (memory writer.old starts.old table.old)
@@ -96,7 +95,7 @@ pub(crate) fn put(
 pub(crate) fn end_block(
     writer: &mut Writer,
     starts: &mut [u32],
-    table: &mut [Block],
+    table: &mut [Row],
 ) -> Result<usize, WriterRefusal>
     ensures ended { IfOk result (λ count. EndsBlock count (memory writer.old starts.old table.old)
         (memory writer.new starts.new table.new)) }

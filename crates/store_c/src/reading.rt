@@ -7,9 +7,8 @@ ghost use Rattle.store_c.specs.Calls.{IsTableOf, Fills, HasCounts, IsByRoom, IsP
 use crate::filling::fill_table;
 use crate::place::Place;
 use crate::refusal::Refusal;
-use crate::table_row::Block;
 use crate::{DONE, locating};
-use docstore::StoreView;
+use docstore::{Row, StoreView};
 use std::alloc::Global;
 
 /// Opens the store whose file these bytes are: fills the table of its blocks, and sets how many blocks and how many
@@ -20,7 +19,7 @@ use std::alloc::Global;
 pub extern "C" fn zevk_open(
     alloc: Global,
     file: &[u8],
-    table: &mut [Block],
+    table: &mut [Row],
     count: &mut usize,
     num_docs: &mut u32,
 ) -> u32
@@ -58,7 +57,7 @@ pub extern "C" fn zevk_open(
 /// It is refused by 6 where the store has no document of this number, by 7 where the document's block doesn't say
 /// where it lies, and by 33 where the table is not that of the file.
 #[unsafe(no_mangle)]
-pub extern "C" fn zevk_locate(file: &[u8], table: &[Block], doc_id: u32, place: &mut Place) -> u32
+pub extern "C" fn zevk_locate(file: &[u8], table: &[Row], doc_id: u32, place: &mut Place) -> u32
     ensures within { result ≡ 0 → place.new.start + place.new.len ≤ length file.now }
     ensures done { result ≡ 0 → IsPlace file.now table.now doc_id place.new }
 
@@ -85,7 +84,7 @@ pub extern "C" fn zevk_locate(file: &[u8], table: &[Block], doc_id: u32, place: 
 #[unsafe(no_mangle)]
 pub extern "C" fn zevk_locate_run(
     file: &[u8],
-    table: &[Block],
+    table: &[Row],
     first: u32,
     places: &mut [Place],
     count: &mut usize,

@@ -5,17 +5,16 @@ ghost use Rattle.store_format.specs.declared.version.DocStoreVersion.TheVariants
 ghost use Rattle.store_c.specs.Writing.{PutsBlocks, RefusesBlocks, TakesBlocks};
 
 use crate::filling::fill;
-use crate::table::start_of;
-use crate::table_row::Block;
 use crate::writer::Writer;
 use crate::writer_refusal::WriterRefusal;
-use docstore::{DocStoreVersion, StoreView};
+use docstore::{DocStoreVersion, Row, StoreView};
+use layered_index::start_of;
 
 /// Appends a store's blocks to those that were ended, and returns how many they are. A refusal for lack of room says so
 /// too, and leaves anything in the rows after those that were ended.
 pub(crate) fn stack(
     writer: &mut Writer,
-    table: &mut [Block],
+    table: &mut [Row],
     view: &StoreView<'_>,
     count: &mut usize,
 ) -> Result<(), WriterRefusal>

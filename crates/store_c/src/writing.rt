@@ -11,11 +11,10 @@ ghost use Rattle.store_c.specs.Writing.{memory, Holds, Begins, PutsDocument, End
 ghost use Rattle.store_c.specs.Writing.{LacksRoom, HasRoom, HasNoEnd, IsOther, MayFollow, RefusesStore, ComesFor};
 
 use crate::ending::end_of_file;
-use crate::table_row::Block;
 use crate::writer::Writer;
 use crate::writer_refusal::WriterRefusal;
 use crate::{DONE, open_block, stacking};
-use docstore::StoreView;
+use docstore::{Row, StoreView};
 use std::alloc::Global;
 
 /// Begins a store that has nothing yet. A block of documents is ended once they exceed the block size: their
@@ -41,7 +40,7 @@ pub extern "C" fn zevk_writer_begin(writer: &mut Writer, block_size: usize)
 pub extern "C" fn zevk_writer_put(
     writer: &mut Writer,
     starts: &mut [u32],
-    table: &mut [Block],
+    table: &mut [Row],
     len: usize,
     count: &mut usize,
 ) -> u32
@@ -79,7 +78,7 @@ pub extern "C" fn zevk_writer_put(
 pub extern "C" fn zevk_writer_end_block(
     writer: &mut Writer,
     starts: &mut [u32],
-    table: &mut [Block],
+    table: &mut [Row],
     count: &mut usize,
 ) -> u32
     ensures ended { result ≡ 0 → EndsBlock count.new (memory writer.old starts.old table.old)
@@ -118,7 +117,7 @@ pub extern "C" fn zevk_writer_end_block(
 pub extern "C" fn zevk_writer_stack(
     alloc: Global,
     writer: &mut Writer,
-    table: &mut [Block],
+    table: &mut [Row],
     file: &[u8],
     count: &mut usize,
     len: &mut usize,
@@ -169,7 +168,7 @@ pub extern "C" fn zevk_writer_stack(
 pub extern "C" fn zevk_writer_close(
     alloc: Global,
     writer: &Writer,
-    table: &[Block],
+    table: &[Row],
     period: u8,
     end: &mut [u8],
     len: &mut usize,

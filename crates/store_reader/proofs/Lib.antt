@@ -30,6 +30,7 @@ pub mod FailedLemmas
 pub mod StoredLemmas
 pub mod OpenedCoverLemmas
 pub mod StoreSliceLemmas
+pub mod StoreOutlineLemmas
 pub mod BlocksLeftLemmas
 pub mod AmidLemmas
 pub mod SliceGivenLemmas

@@ -1,6 +1,6 @@
 -- A store in a slice of bytes: where its parts lie, and what a seek in its index finds.
-use Rattle.std.proofs.Common.{◌≡◌, ℕ, ◌+◌, ◌*◌, ◌-◌, ◌<◌, ◌≤◌, List, length, Option, Some, None, refl, sym, ap, ◌∙◌, subst, arith, inl, inr}
-use Rattle.std.specs.Prelude.{Result, Ok, Err, slice_range, slice_get}
+use Rattle.std.proofs.Common.{◌≡◌, ℕ, ◌+◌, ◌-◌, ◌<◌, ◌≤◌, List, length, Option, Some, None, refl, sym, ap, ◌∙◌, subst, arith, inl, inr}
+use Rattle.std.specs.Prelude.{Result, Ok, Err, IsOkAnd, MatchResult, slice_range, slice_get}
 use Rattle.std.proofs.lemmas.List.{append-nil}
 use Rattle.std.proofs.lemmas.Option.{slice_get_past}
 use Rattle.store_format.specs.FooterLemmas.{kind_zero}
@@ -10,7 +10,7 @@ use Rattle.store_base.specs.declared.error.StoreError.TheVariants.{BadIndex, Bad
 use Rattle.layered_index.specs.declared.checkpoint.Checkpoint.{Checkpoint}
 use Rattle.layered_index.specs.Checkpoint.{Covers, docs_end, first_past}
 use Rattle.layered_index.proofs.LineLemmas.{in_line_from}
-use Rattle.layered_index.specs.Layers.{digit_count, index_part}
+use Rattle.layered_index.specs.Layers.{index_part}
 use Rattle.layered_index.specs.IndexReading.{IsIndexPart, HasIndex}
 use Rattle.layered_index.specs.Sought.{IndexBytes}
 use Rattle.store_format.specs.declared.footer.DocStoreFooter.{DocStoreFooter}
@@ -185,6 +185,10 @@ err_not_ok e x h = cc
 
 pub ok_is : {A : Type 0} (x y : A) → ◌≡◌ {A = Result A StoreError} (Ok x) (Ok y) → x ≡ y
 ok_is x y h = cc
+
+pub ok_matches : {A : Type 0} (r : Result A StoreError) (P : A → Type 0) (Q : StoreError → Type 0) → IsOkAnd r P → MatchResult r P Q
+ok_matches (Ok x) P Q holds = holds
+ok_matches (Err e) P Q holds = absurd holds
 
 -- the block is found by its checkpoint, for each of its documents
 pub block_stored : (bytes : List ℕ) (s : IsSomeStore bytes) (id : ℕ) (c : Checkpoint) (block : List ℕ) → Some c ≡ first_past (checkpoints_of s.blocks) id

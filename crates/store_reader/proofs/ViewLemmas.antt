@@ -1,13 +1,12 @@
 -- Where the documents lie in a store over bytes that another holds.
-use Rattle.std.proofs.Common.{◌≡◌, ℕ, zero, suc, ◌+◌, ◌*◌, ◌-◌, ◌<◌, ◌≤◌, true, false, List, [], ◌∷◌, ◌++◌, length, length-append, take, nat_lt, Some, None, refl, sym, ap, ◌∙◌, subst, arith}
+use Rattle.std.proofs.Common.{◌≡◌, ℕ, zero, suc, ◌+◌, ◌-◌, ◌<◌, ◌≤◌, true, false, List, [], ◌∷◌, ◌++◌, length, length-append, take, nat_lt, Some, None, refl, sym, ap, ◌∙◌, subst, arith}
 use Rattle.std.specs.Prelude.{slice_range, slice_get}
 use Rattle.std.proofs.lemmas.Bool.{lt-ltb, le-ltb}
 use Rattle.store_format.specs.FooterLemmas.{form_reserved}
-use Rattle.store_base.specs.Counts.{raised}
 use Rattle.store_base.proofs.Ranges.{part_of_part}
 use Rattle.layered_index.specs.declared.checkpoint.Checkpoint.{Checkpoint}
 use Rattle.layered_index.specs.Checkpoint.{IsInLineFrom, bytes_end, docs_end, first_past}
-use Rattle.layered_index.specs.Layers.{digit_count, index_part}
+use Rattle.layered_index.specs.Layers.{index_part}
 use Rattle.store_format.specs.declared.version.DocStoreVersion.{DocStoreVersion}
 use Rattle.store_format.specs.Block.{slot, start_of, end_of}
 use Rattle.store_format.specs.Footer.{footer, version_number}

@@ -7,7 +7,9 @@ use Rattle.store_base.specs.declared.error.StoreError.TheVariants.{InvalidArgume
 use Rattle.store_base.specs.declared.error.StoreError.TheVariants.{BadDocument, Memory}
 use Rattle.layered_index.specs.declared.checkpoint.Checkpoint.{Checkpoint}
 use Rattle.layered_index.specs.Checkpoint.{docs_end, first_past}
-use Rattle.layered_index.specs.Layers.{index_part}
+use Rattle.layered_index.specs.declared.row.Row.{Row}
+use Rattle.layered_index.specs.Layers.{digit_count, index_part}
+use Rattle.layered_index.specs.Rows.{AreRowsAbove}
 use Rattle.layered_index.specs.Sought.{IndexBytes}
 use Rattle.store_format.specs.declared.version.DocStoreVersion.{DocStoreVersion}
 use Rattle.store_format.specs.Block.{slot}
@@ -47,6 +49,11 @@ pub record IsLaidOut (bytes : List ℕ) (data_len : ℕ) (index : IndexBytes) (v
 pub record IsStoreSlice (bytes : List ℕ) (data_len : ℕ) (index : IndexBytes) (version : DocStoreVersion) : Type 0 where
   pub within : data_len + 28 ≤ length bytes
   pub laid_out : (s : IsSomeStore bytes) → IsLaidOut bytes data_len index (version_number version) s
+
+-- These are the rows of the layer that is this many layers above the store's blocks.
+pub record IsOutline (bytes : List ℕ) (s : IsSomeStore bytes) (height : ℕ) (rows : List Row) : Type 0 where
+  pub within : height ≤ digit_count s.period (length (checkpoints_of s.blocks))
+  pub are : AreRowsAbove s.period height (checkpoints_of s.blocks) rows
 
 -- The block that begins at this byte and has these bytes is the one that has the document.
 pub record IsBlockSlice (bytes : List ℕ) (s : IsSomeStore bytes) (id first end start : ℕ)

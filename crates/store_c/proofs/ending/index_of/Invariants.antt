@@ -1,6 +1,6 @@
 use Rattle.std.proofs.Common.{◌≡◌, map, take}
 use Rattle.layered_index.specs.Checkpoint.{EndsAt}
-use Rattle.store_c.specs.Calls.{ends_in, ends_of}
+use Rattle.layered_index.specs.Rows.{ends_in, ends_of}
 use Rattle.store_c.proofs.ending.index_of.Given as goal
 
 -- the blocks so far are in the index

@@ -1,8 +1,9 @@
 use Rattle.std.proofs.Common.{◌≡◌, ◌+◌, List, [], ◌∷◌, ◌++◌, length, drop, map, set, sym, ap, ◌∙◌, arith, append_assoc, length-append}
 use Rattle.std.proofs.lemmas.List.{map-append, map-set, length-map}
 use Rattle.layered_index.specs.declared.checkpoint.Checkpoint.{Checkpoint}
-use Rattle.store_c.specs.declared.table_row.BlockEnd.{BlockEnd}
-use Rattle.store_c.specs.Calls.{end_of, ends_in, ends_after, with_front}
+use Rattle.layered_index.specs.declared.row.RowEnd.{RowEnd}
+use Rattle.layered_index.specs.Rows.{end_of, ends_in}
+use Rattle.store_c.specs.Calls.{ends_after, with_front}
 use Rattle.store_c.proofs.TableLemmas.{front_more, front_full, length-front, limits_of}
 use Rattle.store_c.proofs.PlacesLemmas.{fewer_stay, after_stay}
 use Rattle.store_c.proofs.filling.fill.Goals.{then-count-table, else-count-table}
@@ -28,7 +29,7 @@ loop-checkpoint-preserved c =
     let count = c.loop-checkpoint.invariant.2 in
     let table = c.loop-checkpoint.invariant.3 in
     let rest = c.loop-checkpoint.invariant.4 in
-    let following : Checkpoint → BlockEnd = ends_after c.args.start in
+    let following : Checkpoint → RowEnd = ends_after c.args.start in
     let size : length (map following done) ≡ length done = length-map done following in
     let rows : length (ends_in c.loop-checkpoint.table) ≡ length c.loop-checkpoint.table = length-map c.loop-checkpoint.table end_of in
     let room : length (ends_in c.loop-checkpoint.table) ≡ length old = ap length table ∙ length-front (map following done) old in
@@ -40,9 +41,9 @@ loop-checkpoint-preserved c =
       elim c.if-count-table.branch [
         | then-count-table w ↦ ap ends_in w.table-is ∙ map-set end_of c.loop-checkpoint.table c.loop-checkpoint.count w.new.result
             ∙ (λ i. set (table i) (sym place i) (end_of (w.new.ensures i)))
-            ∙ sym (front_more (map following done) old (following next) (omega (arith, rows, w.if-count-table))) ∙ ap (λ (t : List BlockEnd). with_front t old) (sym more)
+            ∙ sym (front_more (map following done) old (following next) (omega (arith, rows, w.if-count-table))) ∙ ap (λ (t : List RowEnd). with_front t old) (sym more)
         | else-count-table w ↦ ap ends_in w.table-is ∙ table ∙ sym (front_full (map following done) old (following next) (omega (arith, rows, w.if-count-table)))
-            ∙ ap (λ (t : List BlockEnd). with_front t old) (sym more)
+            ∙ ap (λ (t : List RowEnd). with_front t old) (sym more)
       ],
       elim c.if-count-table.branch [
         | then-count-table w ↦ ap (drop (c.loop-checkpoint.count + 1)) w.table-is ∙ after_stay c.loop-checkpoint.count c.loop-checkpoint.table c.args.table.now w.new.result rest

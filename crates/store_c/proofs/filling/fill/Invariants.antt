@@ -1,6 +1,7 @@
 use Rattle.std.proofs.Common.{◌≡◌, List, ◌++◌, length, drop, map}
 use Rattle.layered_index.specs.declared.checkpoint.Checkpoint.{Checkpoint}
-use Rattle.store_c.specs.Calls.{ends_in, ends_after, with_front}
+use Rattle.layered_index.specs.Rows.{ends_in}
+use Rattle.store_c.specs.Calls.{ends_after, with_front}
 use Rattle.store_c.proofs.filling.fill.Given as goal
 
 -- what was written, with what is left, is all, and the rows after it stay

@@ -1,9 +1,9 @@
 use Rattle.std.proofs.Common.{◌≡◌, ◌+◌, subst, arith}
 use Rattle.std.proofs.lemmas.Result.{err_from_is_err_and}
-use Rattle.store_c.specs.declared.table_row.BlockEnd.{BlockEnd}
-use Rattle.store_c.specs.Calls.{ends_in, start_in}
+use Rattle.layered_index.specs.declared.row.RowEnd.{RowEnd}
+use Rattle.layered_index.specs.Rows.{ends_in, start_in}
 use Rattle.store_c.specs.Writing.{memory, RefusesEnd, EndsBlockAt, HasRoom, TakesLength}
-use Rattle.store_c.proofs.TableLemmas.{zero_block}
+use Rattle.layered_index.proofs.RowLemmas.{zero_row}
 use Rattle.store_c.proofs.MemoryLemmas.{exact_sum, exact_end, put_open, put_full}
 use Rattle.store_c.proofs.MemoryRefusalLemmas.{put_refused, put_takes}
 use Rattle.store_c.proofs.open_block.put.Goals.{In_ok-end}
@@ -17,7 +17,7 @@ returns-in_err-end-clause-refused c =
     let rows = c.if-writer-table.false in
     rw (p.1, p.2) (put_refused (memory c.args.writer.now c.args.starts.now c.args.table.now) c.args.len c.saturating_add-bytes.result c.in_err-end.field-0.0 (omega arith, omega arith)
     c.saturating_add-bytes.ensures
-    (subst (λ (b : BlockEnd). RefusesEnd b (c.args.writer.now.docs + 1) c.saturating_add-bytes.result c.in_err-end.field-0.0) c.start_of-start.ensures c.in_err-end.ensures.refused))
+    (subst (λ (b : RowEnd). RefusesEnd b (c.args.writer.now.docs + 1) c.saturating_add-bytes.result c.in_err-end.field-0.0) c.start_of-start.ensures c.in_err-end.ensures.refused))
 
 -- there is room, and the block ends here once it takes the document
 room_is : (c : In_ok-end) → HasRoom 2 (memory c.args.writer.now c.args.starts.now c.args.table.now)
@@ -30,7 +30,7 @@ room_is c =
 sum_is : (c : In_ok-end) → c.saturating_add-bytes.result ≡ c.args.writer.now.bytes + c.args.len
 sum_is c = exact_sum (memory c.args.writer.now c.args.starts.now c.args.table.now) c.args.len _ _ _ c.saturating_add-bytes.ensures c.in_ok-end.ensures.end
 
-ends_is : (c : In_ok-end) → EndsBlockAt (start_in zero_block (ends_in c.args.table.now) c.args.writer.now.blocks) (c.args.writer.now.docs + 1) (c.args.writer.now.bytes + c.args.len) c.in_ok-end.end
+ends_is : (c : In_ok-end) → EndsBlockAt (start_in zero_row (ends_in c.args.table.now) c.args.writer.now.blocks) (c.args.writer.now.docs + 1) (c.args.writer.now.bytes + c.args.len) c.in_ok-end.end
 ends_is c = exact_end (memory c.args.writer.now c.args.starts.now c.args.table.now) c.args.len _ _ _ (sum_is c) c.start_of-start.ensures c.in_ok-end.ensures.end
 
 pub returns-then-weight_of-writer-clause-put : goal.returns-then-weight_of-writer-clause-put

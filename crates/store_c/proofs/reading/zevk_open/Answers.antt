@@ -3,8 +3,9 @@ use Rattle.std.proofs.lemmas.List.{length-map, take-map}
 use Rattle.layered_index.specs.Checkpoint.{IsInLineFrom}
 use Rattle.layered_index.specs.declared.checkpoint.Checkpoint.{Checkpoint}
 use Rattle.store_base.specs.Outcome.{number_of}
-use Rattle.store_c.specs.declared.table_row.Block.{Block}
-use Rattle.store_c.specs.Calls.{end_of, ends_in, ends_of, with_front}
+use Rattle.layered_index.specs.declared.row.Row.{Row}
+use Rattle.layered_index.specs.Rows.{end_of, ends_in, ends_of}
+use Rattle.store_c.specs.Calls.{with_front}
 use Rattle.store_c.proofs.FirstRefusalLemmas.{refused_first, same_counts, some_store}
 use Rattle.store_c.proofs.TableLemmas.{front_is, length-front}
 use Rattle.store_c.proofs.TableViewLemmas.{no_more, in_line}
@@ -33,7 +34,7 @@ returns-then-count-table-clause-done c done =
     }
 
 -- the table is as long as it was
-len : (old new : List Block) (cs : List Checkpoint) → ends_in new ≡ with_front (map ends_of cs) (ends_in old) → length new ≡ length old
+len : (old new : List Row) (cs : List Checkpoint) → ends_in new ≡ with_front (map ends_of cs) (ends_in old) → length new ≡ length old
 len old new cs filled = omega (arith, ap length filled, length-front (map ends_of cs) (ends_in old), length-map old end_of, length-map new end_of)
 
 pub returns-in-Err-clause-first : goal.returns-in-Err-clause-first

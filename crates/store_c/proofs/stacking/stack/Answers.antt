@@ -3,7 +3,7 @@ use Rattle.docstore.proofs.TakenLemmas.{length-slots}
 use Rattle.store_format.specs.Footer.{version_number}
 use Rattle.store_format.specs.StoreFile.{IsStore}
 use Rattle.store_reader.specs.Viewing.{Viewing, IsViewOf}
-use Rattle.store_c.specs.declared.table_row.BlockEnd.{BlockEnd}
+use Rattle.layered_index.specs.declared.row.RowEnd.{RowEnd}
 use Rattle.store_c.specs.Writing.{memory}
 use Rattle.store_c.proofs.TableViewLemmas.{no_more}
 use Rattle.store_c.proofs.MemoryLemmas.{has_finished, open_at}
@@ -22,7 +22,7 @@ returns-then-num_docs-start-clause-refused c = (
   (search rules, omega arith),
   λ starts text w h.
       let m = memory c.args.writer.now starts c.args.table.now in
-      let at = ap (λ (b : BlockEnd). b.end_doc) (c.start_of-start.ensures ∙ open_at m w (has_finished m text w h)) in
+      let at = ap (λ (b : RowEnd). b.end_doc) (c.start_of-start.ensures ∙ open_at m w (has_finished m text w h)) in
       let more = c.if-num_docs-start.true in
       let count = c.num_docs.ensures.count in
       omega arith,

@@ -1,16 +1,16 @@
 use Rattle.std.proofs.Common.{◌≡◌, ◌≤◌, ℕ, ◌-◌, ◌++◌, List, take, drop, length, sym, ap, refl, ◌∙◌, subst, arith, inl, inr}
 use Rattle.std.proofs.Math.Seq.{take-append_seam, drop-append_seam}
-use Rattle.store_c.specs.declared.table_row.Block.{Block}
-use Rattle.store_c.specs.declared.table_row.BlockEnd.{BlockEnd}
+use Rattle.layered_index.specs.declared.row.Row.{Row}
+use Rattle.layered_index.specs.declared.row.RowEnd.{RowEnd}
 use Rattle.store_c.specs.declared.writer.Writer.{Writer}
-use Rattle.store_c.specs.Calls.{ends_in}
+use Rattle.layered_index.specs.Rows.{ends_in}
 use Rattle.store_c.specs.Writing.{EndsFile, IsEndOf, HasEnd}
 use Rattle.store_c.proofs.StackLemmas.{rows_fit}
 use Rattle.store_c.proofs.CloseLemmas.{counted_rows, other_index, closed, same_end, no_blocks, not_refused}
 use Rattle.store_c.proofs.writing.zevk_writer_close.Goals as goal
 
 -- a part from the front on
-front_part : (n : ℕ) (table ends : List Block) → ends ≡ take (n - 0) table → ends ≡ take n table
+front_part : (n : ℕ) (table ends : List Row) → ends ≡ take (n - 0) table → ends ≡ take n table
 front_part n table ends is = is ∙ ap (λ (i : ℕ). take i table) (omega arith)
 
 pub returns-in_default-clause-other : goal.returns-in_default-clause-other
@@ -49,7 +49,7 @@ returns-then-len-end-clause-rest c is =
     (λ i. drop (size i) (text i ++ drop c.len-then-len-end.result c.args.end.now)) ∙ drop-append_seam bytes _ ∙ ap (λ (n : ℕ). drop n c.args.end.now) same
 
 -- what is to be written
-made : (period : ℕ) (writer : Writer) (table ends : List Block) (bytes : List ℕ) (len : ℕ) → 2 ≤ period → period ≤ 64 → writer.docs ≡ 0 → writer.blocks ≤ length table → ends ≡ take writer.blocks table
+made : (period : ℕ) (writer : Writer) (table ends : List Row) (bytes : List ℕ) (len : ℕ) → 2 ≤ period → period ≤ 64 → writer.docs ≡ 0 → writer.blocks ≤ length table → ends ≡ take writer.blocks table
     → IsEndOf period (ends_in ends) bytes → length bytes ≡ len → HasEnd period len writer table
 made period writer table ends bytes len least most none rows is end size = record {
   least = least;
@@ -57,13 +57,13 @@ made period writer table ends bytes len least most none rows is end size = recor
   none_open = none;
   rows = rows;
   end = bytes;
-  is = subst (λ (es : List BlockEnd). IsEndOf period es bytes) (counted_rows writer table ends is) end;
+  is = subst (λ (es : List RowEnd). IsEndOf period es bytes) (counted_rows writer table ends is) end;
   size = size;
   ends = closed writer table ends period bytes none is least most end;
 }
 
 -- it has one length
-one_length : (period n len : ℕ) (writer : Writer) (table : List Block) → HasEnd period n writer table → HasEnd period len writer table → len ≡ n
+one_length : (period n len : ℕ) (writer : Writer) (table : List Row) → HasEnd period n writer table → HasEnd period len writer table → len ≡ n
 one_length period n len writer table has here =
     sym here.size ∙ ap length (same_end period (take writer.blocks (ends_in table)) here.end has.end here.is has.is) ∙ has.size
 

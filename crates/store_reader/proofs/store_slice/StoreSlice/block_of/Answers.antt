@@ -1,11 +1,9 @@
 use Rattle.std.proofs.Common.{ℕ, ◌≡◌, ◌≤◌, ◌<◌, None, refl, sym, ◌∙◌}
-use Rattle.std.specs.Prelude.{Result, Ok, Err, IsOkAnd, MatchResult}
-use Rattle.store_base.specs.declared.error.StoreError.{StoreError}
 use Rattle.store_base.specs.declared.error.StoreError.TheVariants.{InvalidArgument}
 use Rattle.layered_index.specs.Checkpoint.{first_past}
 use Rattle.store_format.specs.StoreFile.{checkpoints_of}
 use Rattle.store_reader.specs.StoreSlices.{IsBlockSlice}
-use Rattle.store_reader.proofs.StoreSliceLemmas.{seen_parts, stored_index, err_not_ok, ok_is}
+use Rattle.store_reader.proofs.StoreSliceLemmas.{seen_parts, stored_index, err_not_ok, ok_is, ok_matches}
 use Rattle.store_reader.proofs.store_slice.StoreSlice.block_of.Goals as goal
 
 pub returns-in_err-checkpoint-clause-block : goal.returns-in_err-checkpoint-clause-block
@@ -25,7 +23,3 @@ returns-clause-block c s =
     let found = ok_is _ _ (c.in_ok-checkpoint.ensures.answer (checkpoints_of s.blocks) (stored_index _ _ _ _ s (inv.laid_out s))) in
     ok_matches c.found_block.result (λ b. (id : ℕ) → b.first ≤ id → id < b.end → IsBlockSlice _ s id b.first b.end b.start b.bytes.now)
     (λ e. (e ≡ InvalidArgument c.args.doc_id) × (first_past (checkpoints_of s.blocks) c.args.doc_id ≡ None)) (c.found_block.ensures.block s (sym found ∙ c.in-Some.is))
-  where
-    ok_matches : {A : Type 0} (r : Result A StoreError) (P : A → Type 0) (Q : StoreError → Type 0) → IsOkAnd r P → MatchResult r P Q
-    ok_matches (Ok x) P Q holds = holds
-    ok_matches (Err e) P Q holds = absurd holds

@@ -1,0 +1,122 @@
+-- The layer of which rows are kept, and the rows.
+use Rattle.std.proofs.Common.{◌≡◌, ℕ, zero, suc, ◌+◌, ◌-◌, ◌<◌, ◌≤◌, ◌^◌, inl, inr, List, [], ◌∷◌, ◌++◌, length, take, drop, map, set, Some, refl, sym, ◌∙◌, ap, arith}
+use Rattle.std.proofs.Common.{drop-drop}
+use Rattle.std.proofs.lemmas.Bool.{cases_lt}
+use Rattle.std.proofs.lemmas.List.{length-map, length-take-le, drop-set-lt}
+use Rattle.std.proofs.lemmas.Slice.{drop-append-drop}
+use Rattle.layered_index.specs.declared.checkpoint.Checkpoint.{Checkpoint}
+use Rattle.layered_index.specs.declared.row.Row.{Row}
+use Rattle.layered_index.specs.Checkpoint.{IsInLine}
+use Rattle.layered_index.specs.Layers.{layer_text, layer_above, digit_count}
+use Rattle.layered_index.specs.LayerReading.{items}
+use Rattle.layered_index.specs.IndexReading.{IsIndexPart}
+use Rattle.layered_index.specs.Rows.{end_of, ends_in, ends_of, layer_at, lower_texts, AreRowsOf, AreRowsAbove, IsDeepest}
+use Rattle.layered_index.specs.Sought.{layers_left, next_layer, IsHeaded}
+use Rattle.layered_index.proofs.IndexLemmas.{digit_count_zero}
+use Rattle.layered_index.proofs.LayerLemmas.{layer_above_is_in_line}
+use Rattle.layered_index.proofs.CursorLemmas.{items_layer, items_none}
+use Rattle.layered_index.proofs.PassLemmas.{above_some}
+use Rattle.layered_index.proofs.OpenLemmas.{small_texts}
+use Rattle.layered_index.proofs.IndexHeadLemmas.{head_digits}
+use Rattle.layered_index.proofs.LowerLemmas.{AreSmall, lower_first, lower_next}
+
+-- ---- rows written
+
+-- those after a place stay, where a row is written to it
+pub after_stay : (n : ℕ) (xs ys : List Row) (x : Row) → drop n xs ≡ drop n ys → drop (n + 1) (set xs n x) ≡ drop (n + 1) ys
+after_stay n xs ys x e = drop-set-lt (n + 1) xs n x (omega arith) ∙ sym (drop-drop 1 n xs) ∙ ap (drop 1) e ∙ drop-drop 1 n ys
+
+-- a front written over by rows that end where those did
+module _ (n : ℕ) (rows front : List Row) (le : n ≤ length rows) (is : ends_in front ≡ ends_in (take n rows)) where
+  as_many : length front ≡ n
+  as_many = omega (arith, length-map front end_of, length-map (take n rows) end_of, ap length is, length-take-le n rows le)
+
+  pub same_rest : drop n (front ++ drop n rows) ≡ drop n rows
+  same_rest = drop-append-drop n rows front n (omega arith) as_many
+
+  pub same_front : ends_in (take n (front ++ drop n rows)) ≡ ends_in (take n rows)
+  same_front = ap ends_in (ap (λ (k : ℕ). take k (front ++ drop n rows)) (sym as_many) ∙ front_of front (drop n rows)) ∙ is
+    where
+      front_of : (xs ys : List Row) → take (length xs) (xs ++ ys) ≡ xs
+      front_of [] ys = none ys
+        where
+          none : (ys : List Row) → take 0 ys ≡ []
+          none ys = refl
+      front_of (x ∷ xs) ys = ap (λ (zs : List Row). x ∷ zs) (front_of xs ys)
+
+-- ---- the layers
+
+at_in_line : (period height count : ℕ) (cs : List Checkpoint) → 1 ≤ period → period ≤ 64 → height ≤ count → IsInLine cs → AreSmall period count cs → IsInLine (layer_at period height cs)
+at_in_line period zero count cs one small le h all = h
+at_in_line period (suc height) zero cs one small le h all = absurd (omega arith)
+at_in_line period (suc height) (suc count) cs one small le h all =
+    at_in_line period height count (layer_above period cs) one small (omega arith) (layer_above_is_in_line period cs one small h all.0) all.1
+
+some_at : (period height : ℕ) (cs : List Checkpoint) → 1 ≤ period → 0 < length cs → 0 < length (layer_at period height cs)
+some_at period zero cs one some = some
+some_at period (suc height) cs one some = some_at period height (layer_above period cs) one (above_some period cs one some)
+
+-- what was passed, down to these layers that are left: the last of it, if any, has these bytes
+pub record ArePassed (period : ℕ) (cs : List Checkpoint) (left place : ℕ) (ends texts kept : List ℕ) : Type 0 where
+  pub lower : layers_left left place ends texts ≡ Some (lower_texts period left cs)
+  pub within : left ≤ digit_count period (length cs)
+  pub is : left < digit_count period (length cs) → kept ≡ layer_text period (layer_at period left cs)
+  pub none : left ≡ digit_count period (length cs) → kept ≡ []
+
+-- nothing yet
+pub passed_none : (period : ℕ) (bytes : List ℕ) (count : ℕ) (ends texts kept : List ℕ) (cs : List Checkpoint) → IsHeaded period bytes count ends texts → length bytes < 2 ^ 64
+    → IsIndexPart period bytes cs → kept ≡ [] → ArePassed period cs count 0 ends texts kept
+passed_none period bytes count ends texts kept cs head fits is empty =
+    let digits = head_digits period bytes count ends texts cs head is in
+    record { lower = lower_first period bytes count ends texts cs head fits is; within = omega (arith, digits); is = λ lt. absurd (omega (arith, digits, lt)); none = λ _. empty }
+
+-- one more
+pub passed_next : (period left place : ℕ) (ends texts kept layer : List ℕ) (end : ℕ) (more_ends more : List ℕ) (cs : List Checkpoint) → 0 < left → ArePassed period cs left place ends texts kept
+    → next_layer place ends texts ≡ Some (layer, end, more_ends, more) → ArePassed period cs (left - 1) end more_ends more layer
+passed_next period left place ends texts kept layer end more_ends more cs some are next =
+    let on = lower_next period left place ends texts layer end more_ends more cs some are.lower next in
+    record { lower = on.others; within = omega (arith, are.within); is = λ _. on.text; none = λ e. absurd (omega (arith, e, are.within, some)) }
+
+-- where no more are passed, the last of them is the deepest
+pub passed_last : (period room : ℕ) (bytes : List ℕ) (left place : ℕ) (ends texts kept : List ℕ) (cs : List Checkpoint) → 2 ≤ period → period ≤ 64 → length bytes < 2 ^ 64 → IsIndexPart period bytes cs
+    → ArePassed period cs left place ends texts kept → (0 < left → room < length (layer_at period (left - 1) cs)) → IsDeepest period room cs left (items 0 0 0 kept)
+passed_last period room bytes left place ends texts kept cs two small fits is are last =
+    let one : 1 ≤ period = omega arith in
+    let line = at_in_line period left (digit_count period (length cs)) cs one small are.within is.0 (small_texts period bytes cs fits is) in
+    record {
+      within = are.within;
+      is = λ lt. ap (items 0 0 0) (are.is lt) ∙ items_layer period (layer_at period left cs) one small line;
+      none = λ e. ap (items 0 0 0) (are.none e) ∙ items_none 0 0;
+      last = last;
+    }
+
+-- the next layer has its checkpoints
+pub next_items : (period : ℕ) (bytes : List ℕ) (left place : ℕ) (ends texts kept layer : List ℕ) (end : ℕ) (more_ends more : List ℕ) (cs : List Checkpoint) → 2 ≤ period → period ≤ 64
+    → length bytes < 2 ^ 64 → IsIndexPart period bytes cs → 0 < left → ArePassed period cs left place ends texts kept → next_layer place ends texts ≡ Some (layer, end, more_ends, more)
+    → items 0 0 0 layer ≡ layer_at period (left - 1) cs
+next_items period bytes left place ends texts kept layer end more_ends more cs two small fits is some are next =
+    let one : 1 ≤ period = omega arith in
+    let line = at_in_line period (left - 1) (digit_count period (length cs)) cs one small (omega (arith, are.within)) is.0 (small_texts period bytes cs fits is) in
+    ap (items 0 0 0) (lower_next period left place ends texts layer end more_ends more cs some are.lower next).text ∙ items_layer period (layer_at period (left - 1) cs) one small line
+
+-- ---- the rows of the layer
+
+some_digits : (period height : ℕ) (cs : List Checkpoint) → height < digit_count period (length cs) → 0 < length cs
+some_digits period height [] lt = absurd (omega (arith, lt, digit_count_zero period))
+some_digits period height (c ∷ cs) lt = omega arith
+
+pub rows_above : (period room height : ℕ) (cs layer : List Checkpoint) (rows : List Row) → 1 ≤ period → IsDeepest period room cs height layer → AreRowsOf layer rows
+    → AreRowsAbove period height cs rows
+rows_above period room height cs layer [] one is are = elim (cases_lt height (digit_count period (length cs))) [
+  | inl lt ↦
+      let none : length layer ≡ 0 = sym (length-map layer ends_of) ∙ sym (ap length are) in
+      let some = some_at period height cs one (some_digits period height cs lt) in
+      absurd (omega (arith, some, none, ap length (is.is lt)))
+  | inr le ↦ omega (arith, is.within)
+]
+rows_above period room height cs layer (row ∷ rows) one is are = elim (cases_lt height (digit_count period (length cs))) [
+  | inl lt ↦ are ∙ ap (map ends_of) (is.is lt)
+  | inr le ↦
+      let some : length (ends_in (row ∷ rows)) ≡ length layer = ap length are ∙ length-map layer ends_of in
+      absurd (omega (arith, some, ap length (is.none (omega (arith, is.within)))))
+]
