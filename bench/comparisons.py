@@ -68,6 +68,8 @@ WORKS = [
     Work("iterating without opening (`zevk_get_run`)", "unopened", rows(["iterate"], **PAGES)),
     Work("an open with all checks (`zevk_open`)", "zevk", rows(["open"], group="open")),
     Work("an open by path (`zevk_file_open`)", "path", rows(["open"], group="open")),
+    Work("an open by path with all checks", "checked", rows(["open"], group="open")),
+    Work("gets by path", "path", rows(ORDERS, **PAGES)),
     Work("the first get of a file by `zevk_get`", "unopened", rows(["open"], group="open")),
     Work("gets from a file that is not in memory", "zevk", rows(["cold"], group="cold")),
     Work("gets of eight threads at once", "zevk", rows(["threads"], group="threads", threads=8)),

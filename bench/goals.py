@@ -9,6 +9,7 @@ from texts import factor_text, in_table, number_text
 
 GETS = {"uniform": "uniform", "hot": "hot", "zipf": "zipf", "sequence": "in sequence"}
 BY_CURSOR = {"sequence": "in sequence"}
+SCATTERED = {order: told for order, told in GETS.items() if order not in BY_CURSOR}
 ITERATE = {"iterate": "iterate"}
 
 WALK = "each get decodes the index from its top"
@@ -124,6 +125,8 @@ IN_C = dict(group="python", side="zevk", workload="uniform")
 
 GOALS = [
     *_reads("unopened", "lmdb", "`zevk_get` / LMDB, get", 0.6, GETS, WALK),
+    *_reads("path", "lmdb", "by path / LMDB, get", 0.6, SCATTERED, UNKNOWN),
+    *_reads("path", "lmdb_cursor", "by path / LMDB by a cursor, get", 0.6, BY_CURSOR, UNKNOWN),
     *_reads("unopened", "lmdb_cursor", "`zevk_get` / LMDB by a cursor, get", 0.6, BY_CURSOR, WALK),
     *_reads("unopened", "cdb", "`zevk_get` / tinycdb, get", 1.0, GETS, WALK),
     *_beside_view(),

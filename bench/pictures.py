@@ -11,9 +11,9 @@ from plan import DISK, MEMORY, PEERS, PYTHON_SIDES
 from texts import between, factor_text, in_sentence, listed, time_text
 
 #: how a side is called that has more than one call
-OPENS = {"unopened": "zevk_get", "unchecked": "file, unchecked", "zevk": "zevk_open", "path": "zevk_file_open",
+OPENS = {"unopened": "zevk_get", "path": "by path", "zevk": "zevk_open", "checked": "path, checked",
          "view": "StoreView", "reader": "StoreReader", "rust": "Rust, Store"}
-OUR_SIDES = ["zevk", "unopened", "path", "unchecked", "view", "reader", "rust", "python"]
+OUR_SIDES = ["zevk", "unopened", "path", "checked", "view", "reader", "rust", "python"]
 
 Wanted = Dict[str, object]
 
@@ -91,13 +91,15 @@ def _open_wanted(side: str) -> Wanted:
 
 
 def opening_sentence(figures: Figures) -> str:
-    spreads = {side: figures.spread(**_open_wanted(side)) for side in ["unopened", "path", "zevk", "lmdb"]}
+    sides = ["unopened", "path", "checked", "zevk", "lmdb"]
+    spreads = {side: figures.spread(**_open_wanted(side)) for side in sides}
     known = {side: in_sentence(spread, time_text) for side, spread in spreads.items() if spread is not None}
     if not {"unopened", "zevk", "lmdb"} <= set(known):
         return "Opening a store of 10^6 documents of 100 bytes, and getting the first one."
-    by_path = f" and `zevk_file_open` {known['path']}" if "path" in known else ""
-    return (f"The first get of a file by `zevk_get` takes {known['unopened']}; `zevk_open`, which checks the whole "
-            f"index, takes {known['zevk']} with a get{by_path}, where LMDB takes {known['lmdb']}.")
+    by_path = f", and by path {known['path']}" if "path" in known else ""
+    checked = f" and `zevk_file_open` {known['checked']} if it does so" if "checked" in known else ""
+    return (f"The first get of a file by `zevk_get` takes {known['unopened']}{by_path}; `zevk_open`, which checks the "
+            f"whole index, takes {known['zevk']} with a get{checked}, where LMDB takes {known['lmdb']}.")
 
 
 def opening(figures: Figures, title: str, says: str) -> Optional[Drawing]:

@@ -10,8 +10,8 @@ PEERS = ["lmdb", "sqlite", "leveldb", "rocksdb", "cdb"]
 OWN_C_SIDES = ["zevk", "unopened"]
 USUAL_SIDES = PEERS + ["plain"] + OWN_C_SIDES
 
-#: more sides in C: ours by the path of a file, with all checks and without, and files that are read by ranges
-PATH_SIDES = ["path", "unchecked"]
+#: more sides in C: ours by the path of a file, by an outline and with all checks, and files that are read by ranges
+PATH_SIDES = ["path", "checked"]
 RANGED_SIDES = ["ranged", "plain_ranged"]
 
 #: LMDB, whose gets move a cursor
@@ -19,7 +19,7 @@ CURSOR_SIDES = ["lmdb_cursor"]
 C_SIDES = USUAL_SIDES + PATH_SIDES + RANGED_SIDES + CURSOR_SIDES
 
 #: sides whose instructions are counted, and that read documents of many lengths
-COUNTED_SIDES = ["lmdb", "cdb", "plain"] + OWN_C_SIDES
+COUNTED_SIDES = ["lmdb", "cdb", "plain", "path"] + OWN_C_SIDES
 
 #: sides in C that write in a way of their own
 WRITERS = [side for side in USUAL_SIDES if side != "unopened"]
@@ -31,7 +31,7 @@ LOG_PEERS = ["lmdb", "sqlite", "rocksdb"]
 APPENDERS = ["path", "lmdb", "sqlite", "leveldb", "rocksdb"]
 
 #: who wrote the store that a side reads, where that is not the side itself
-WRITER_OF = {"unopened": "zevk", "path": "zevk", "unchecked": "zevk", "ranged": "zevk", "plain_ranged": "plain",
+WRITER_OF = {"unopened": "zevk", "path": "zevk", "checked": "zevk", "ranged": "zevk", "plain_ranged": "plain",
              "rust": "zevk", "python": "zevk", "lmdb_cursor": "lmdb"}
 
 #: sides in Rattle, all ours: bytes in memory, a reader with a cache over them, the same over a file on disk, and a log
@@ -205,7 +205,7 @@ def read_rows(sizes: Sizes) -> List[Row]:
     """Files in the page cache, of every length; of one also by path, and by the disk's reader, which writes its file
     each time."""
     lengths = list(sizes.documents)
-    rows = _reads("read", DISK, USUAL_SIDES, lengths, sizes) + _reads("read", DISK, ["path", "disk"], [100], sizes)
+    rows = _reads("read", DISK, USUAL_SIDES, lengths, sizes) + _reads("read", DISK, PATH_SIDES + ["disk"], [100], sizes)
     in_sequence = _reads("read", DISK, CURSOR_SIDES, lengths, sizes)
     return rows + [row for row in in_sequence if row.workload == "sequence"]
 

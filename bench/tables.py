@@ -11,8 +11,8 @@ from texts import Text, factor_text, in_table, number_text, time_text
 LENGTHS = [8, 100, 1000, 20000]
 PEER_COLUMNS = ["lmdb", "sqlite", "leveldb", "rocksdb", "cdb", "plain"]
 C_COLUMNS = ["unopened", "zevk"] + PEER_COLUMNS
-HEADS = {"unopened": "`zevk_get`", "zevk": "`zevk_locate`", "path": "`zevk_file_get`", "view": "`StoreView`",
-         "unchecked": "`zevk_file_get`, unchecked", "disk": "`DiskFile`", "log": "`SegmentedLog`"}
+HEADS = {"unopened": "`zevk_get`", "zevk": "`zevk_locate`", "path": "by path", "view": "`StoreView`",
+         "checked": "by path, checked", "disk": "`DiskFile`", "log": "`SegmentedLog`"}
 
 Lines = List[str]
 Wanted = Dict[str, object]
@@ -35,7 +35,7 @@ def cells(figures: Figures, sides: List[str], text: Text, wanted: Wanted) -> Lis
 
 def read(figures: Figures) -> Lines:
     in_process = ["view", "reader"]
-    sides = ["unopened", "zevk", "path", *in_process, "disk", "lmdb", "lmdb_cursor", *PEER_COLUMNS[1:]]
+    sides = ["unopened", "zevk", "path", "checked", *in_process, "disk", "lmdb", "lmdb_cursor", *PEER_COLUMNS[1:]]
     lines = head("reading", sides)
     for workload, name in READ_NAMES.items():
         wanted = dict(workload=workload, length=100)
@@ -59,7 +59,7 @@ def ratios(figures: Figures) -> Lines:
 
 def lengths(figures: Figures) -> Lines:
     """Documents of one length, and of many with the same mean."""
-    sides = ["unopened", "zevk", "lmdb", "cdb", "plain"]
+    sides = ["unopened", "path", "zevk", "lmdb", "cdb", "plain"]
     lines = head("reading", sides)
     for workload, name in READ_NAMES.items():
         for are_many, which in ((False, "one length"), (True, "many")):
@@ -70,7 +70,7 @@ def lengths(figures: Figures) -> Lines:
 
 def instructions(figures: Figures) -> Lines:
     """How many a get takes, or an open."""
-    sides = ["unopened", "zevk", "lmdb", "cdb", "plain"]
+    sides = ["unopened", "path", "zevk", "lmdb", "cdb", "plain"]
     lines = head("instructions", sides)
     for workload, name in {**READ_NAMES, "open": "open, and get document 0"}.items():
         wanted = dict(group="instructions", workload=workload)
@@ -104,7 +104,7 @@ def _pair(figures: Figures, common: Wanted, name: str) -> str:
 
 
 def other(figures: Figures) -> Lines:
-    sides = [*C_COLUMNS[:2], "path", "unchecked", *PEER_COLUMNS]
+    sides = [*C_COLUMNS[:2], "path", "checked", *PEER_COLUMNS]
     lines = head("other work", sides)
     works = [(dict(group="cold", length=length), f"get, cold, of {length} bytes") for length in (100, 1000, 20000)]
     works += [(dict(group="threads", threads=threads), f"get, uniform, {threads} thread" + "s" * (threads > 1))
@@ -113,8 +113,8 @@ def other(figures: Figures) -> Lines:
 
 
 #: how users open a store, and what they call for it
-OPENS = {"unopened": "`zevk_get`", "unchecked": "`zevk_file_open`, unchecked", "zevk": "`zevk_open`",
-         "path": "`zevk_file_open`", "view": "`StoreView::open`", "reader": "`StoreReader::open`",
+OPENS = {"unopened": "`zevk_get`", "path": "`zevk_file_open`", "zevk": "`zevk_open`",
+         "checked": "`zevk_file_open`, checked", "view": "`StoreView::open`", "reader": "`StoreReader::open`",
          "rust": "Rust, `Store::open(fs::read(..))`"}
 
 

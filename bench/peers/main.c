@@ -2,7 +2,7 @@
  *
  * usage: peers SIDE WORKLOAD PATH [key=number ...]
  *
- * SIDE: plain, lmdb, lmdb_cursor, sqlite, leveldb, rocksdb, cdb, zevk, unopened, path, unchecked, ranged or
+ * SIDE: plain, lmdb, lmdb_cursor, sqlite, leveldb, rocksdb, cdb, zevk, unopened, path, checked, ranged or
  * plain_ranged. PATH: the store, which `write`, `log_append` and `log_synced_once` make, `append` changes and the
  * others read.
  * WORKLOAD: write, append, log_append, log_synced_once, uniform, hot, zipf, sequence, keep_uniform, keep_sequence,
@@ -20,7 +20,7 @@
 
 static const struct side *const sides[] = {&plain_side, &lmdb_side,      &lmdb_cursor_side, &sqlite_side,
                                            &leveldb_side, &rocksdb_side, &cdb_side,         &zevk_side,
-                                           &unopened_side, &path_side,   &unchecked_side,   &ranged_side,
+                                           &unopened_side, &path_side,   &checked_side,   &ranged_side,
                                            &plain_ranged_side};
 
 static const struct {

@@ -1,4 +1,4 @@
-/* Ours, by the calls of the library for C that take the path of a file: opened with all checks, and without. */
+/* Ours, by the calls of the library for C that take the path of a file: opened by an outline, and with all checks. */
 #include <stdlib.h>
 #include <zevkhadun_file.h>
 
@@ -45,22 +45,34 @@ static void *path_open(const char *path, const struct settings *settings) {
     return opened(path, scattering(settings));
 }
 
-static void *unchecked_open(const char *path, const struct settings *settings) {
-    return opened(path, ZEVK_FILE_UNCHECKED | scattering(settings));
+static void *checked_open(const char *path, const struct settings *settings) {
+    return opened(path, ZEVK_FILE_CHECKED | scattering(settings));
+}
+
+/* A thread reads by a cursor of its own, whatever order it asks in. */
+static void *begin(void *store) {
+    zevk_cursor *cursor = malloc(sizeof *cursor);
+    require(cursor != NULL, "path", "no memory");
+    zevk_cursor_begin(cursor, store, 0);
+    return cursor;
+}
+
+static void end(void *reader) {
+    free(reader);
 }
 
 static struct bytes get(void *reader, uint32_t number) {
     zevk_document document;
-    expect(zevk_file_get(reader, number, &document));
+    expect(zevk_cursor_get(reader, number, &document));
     return (struct bytes){document.bytes, document.len};
 }
 
 static void iterate(void *reader, struct check *check) {
-    zevk_cursor cursor;
+    zevk_cursor *cursor = reader;
     zevk_document document;
     int error;
-    zevk_cursor_begin(&cursor, reader, 0);
-    while ((error = zevk_cursor_next(&cursor, &document)) == 0) {
+    zevk_cursor_begin(cursor, cursor->file, 0);
+    while ((error = zevk_cursor_next(cursor, &document)) == 0) {
         check_add(check, (struct bytes){document.bytes, document.len});
     }
     expect(error == ZEVK_NO_DOCUMENT ? 0 : error);
@@ -75,20 +87,20 @@ const struct side path_side = {
     .write = path_write,
     .append = path_append,
     .open = path_open,
-    .begin = begin_shared,
-    .end = end_shared,
+    .begin = begin,
+    .end = end,
     .get = get,
     .iterate = iterate,
     .close = close_store,
 };
 
-const struct side unchecked_side = {
-    .name = "unchecked",
+const struct side checked_side = {
+    .name = "checked",
     .write = path_write,
     .append = path_append,
-    .open = unchecked_open,
-    .begin = begin_shared,
-    .end = end_shared,
+    .open = checked_open,
+    .begin = begin,
+    .end = end,
     .get = get,
     .iterate = iterate,
     .close = close_store,

@@ -62,7 +62,7 @@ struct side {
 };
 
 extern const struct side plain_side, lmdb_side, lmdb_cursor_side, sqlite_side, leveldb_side, rocksdb_side, cdb_side,
-    zevk_side, unopened_side, path_side, unchecked_side, ranged_side, plain_ranged_side;
+    zevk_side, unopened_side, path_side, checked_side, ranged_side, plain_ranged_side;
 
 /* Beginning and end of a reader, for a side whose threads all read by the store itself. */
 static inline void *begin_shared(void *store) {

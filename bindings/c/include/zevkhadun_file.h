@@ -60,7 +60,7 @@ const char *zevk_strerror(int error);
 
 /* ---- reading */
 
-/* An open store: the map of its file, and the table of its blocks. */
+/* An open store: the map of its file, and rows of its index. */
 typedef struct zevk_file zevk_file;
 
 /* A document: its bytes, which lie in the map of the file, and their number. They stay until the file is closed. */
@@ -69,18 +69,22 @@ typedef struct zevk_document {
     size_t len;
 } zevk_document;
 
-/* A flag of zevk_file_open: only the footer and the top layer of the index are checked, and no table is made. Opening
- * takes the same short time for each size of file. A get then takes longer, and reads and checks the part of the index
- * that it needs: in a damaged file it may give the bytes of something else, which lie in the file all the same. */
-#define ZEVK_FILE_UNCHECKED 1u
+/* A flag of zevk_file_open: the whole index is checked, and the store has a table of all its blocks. Opening then takes
+ * longer the more blocks there are, and a get takes less time.
+ *
+ * Without it, opening takes the same short time for each size of file: it checks the footer and what it reads, and
+ * makes an outline of at most 16 KiB. A get reads and checks the part of the index that it needs. In a damaged file it
+ * may give the bytes of something else, which lie in the file all the same. Of a store with few blocks the outline is
+ * the table, and gets take as little time. */
+#define ZEVK_FILE_CHECKED 8u
 
 /* A flag of zevk_file_open: the gets will be far apart, in a file of which little is in memory. The system then reads
  * no pages ahead, and zevk_file_get asks it for the two pages that it needs at once, and doesn't wait for one after the
  * other. Leave it out for a file that is in memory, since each get then asks the system for nothing. */
 #define ZEVK_FILE_SCATTERED 4u
 
-/* Opens the file of this name: maps it, checks its whole index unless a flag says otherwise, and sets `file`. `flags`
- * is 0, ZEVK_FILE_UNCHECKED, ZEVK_FILE_SCATTERED or both.
+/* Opens the file of this name: maps it, checks its whole index if a flag says so, and sets `file`. `flags` is 0,
+ * ZEVK_FILE_CHECKED, ZEVK_FILE_SCATTERED or both.
  *
  * Errors: -EINVAL for any other flag; those of the system; NOT_PLAIN_FILE; the file errors; NO_MEMORY. */
 int zevk_file_open(const char *path, unsigned flags, zevk_file **file);
@@ -93,17 +97,17 @@ uint32_t zevk_file_num_docs(const zevk_file *file);
 
 /* Sets `document` to the bytes of a document, where they lie in the map. Nothing is copied.
  *
- * Errors: NO_DOCUMENT; DAMAGED_DOCUMENT; with ZEVK_FILE_UNCHECKED also BAD_INDEX. */
+ * Errors: NO_DOCUMENT; DAMAGED_DOCUMENT; without ZEVK_FILE_CHECKED also BAD_INDEX. */
 int zevk_file_get(const zevk_file *file, uint32_t doc_id, zevk_document *document);
 
 /* How many places of documents a cursor finds at a time. */
 #define ZEVK_CURSOR_RUN 64
 
-/* A position in a store, from which its documents are read in order. Its memory is the caller's, and nothing has to be
- * freed. The caller reads `doc_id` alone. */
+/* A position in a store, from which its documents are read, in order or nearly so. Its memory is the caller's, and
+ * nothing has to be freed. The caller reads `doc_id` alone. */
 typedef struct zevk_cursor {
     const zevk_file *file;
-    uint32_t doc_id;  /* the number of the document that the last zevk_cursor_next was about */
+    uint32_t doc_id;  /* the number of the document that the last call was about */
     uint32_t next;    /* the number of the next one */
     uint32_t at;      /* the number of places that were used */
     uint32_t count;   /* the number of places that were found */
@@ -116,15 +120,21 @@ void zevk_cursor_begin(zevk_cursor *cursor, const zevk_file *file, uint32_t firs
 /* Sets `document` to the next one, and moves on. To read in order this is quicker than zevk_file_get.
  *
  * Errors: NO_DOCUMENT at the end of the store, where the cursor stays; DAMAGED_DOCUMENT, after which the next call goes
- * on with the document after it; with ZEVK_FILE_UNCHECKED also BAD_INDEX, where the cursor stays. */
+ * on with the document after it; without ZEVK_FILE_CHECKED also BAD_INDEX, where the cursor stays. */
 int zevk_cursor_next(zevk_cursor *cursor, zevk_document *document);
+
+/* Sets `document` to any document, as zevk_file_get does, and the cursor before the one after it. Where the documents
+ * are asked for in order this is as quick as zevk_cursor_next, and else as zevk_file_get.
+ *
+ * Errors: those of zevk_file_get. */
+int zevk_cursor_get(zevk_cursor *cursor, uint32_t doc_id, zevk_document *document);
 
 /* Counts, sizes and versions of an open store. */
 typedef struct zevk_facts {
     const uint8_t *bytes;  /* the bytes of the file, for zevk_check and the other calls of zevkhadun.h */
     size_t len;            /* how many bytes the file has */
     size_t data_len;       /* how many of them are blocks of documents */
-    size_t blocks;         /* the number of blocks, or 0 with ZEVK_FILE_UNCHECKED */
+    size_t blocks;         /* the number of blocks with ZEVK_FILE_CHECKED, else 0 */
     uint32_t num_docs;     /* the number of documents */
     uint32_t version;      /* the version of the format: 1, 2 or 3 */
     uint32_t period;       /* how many entries a run of the index has */

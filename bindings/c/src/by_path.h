@@ -7,8 +7,10 @@
 struct zevk_file {
     const uint8_t *bytes;  /* NULL if the file is empty */
     size_t len;
-    zevk_block *table;     /* NULL with ZEVK_FILE_UNCHECKED, and then only */
-    size_t blocks;
+    zevk_block *rows;      /* never NULL in an open file */
+    size_t count;          /* of the rows */
+    size_t height;         /* how many layers of the index lie below that of the rows; 0 for a table of all blocks */
+    size_t blocks;         /* with ZEVK_FILE_CHECKED, else 0 */
     uint32_t num_docs;
     size_t page;           /* the bytes of a page of memory with ZEVK_FILE_SCATTERED, else 0 */
 };

@@ -56,7 +56,8 @@ int zevk_returned(int error) {
 
 /* ---- reading */
 
-enum { FOOTER_LEN = 28 };
+/* An outline of 16 KiB. */
+enum { FOOTER_LEN = 28, OUTLINE_ROWS = 1024 };
 
 /* Maps a plain file. An empty one is not mapped. */
 static int map_file(zevk_file *file, int descriptor) {
@@ -91,28 +92,52 @@ static size_t index_start(const zevk_file *file) {
     return file->len < FOOTER_LEN ? 0 : (size_t)number_at(file->bytes + file->len - 24, 8);
 }
 
-/* Opens the store and makes its table, which has a row more than it needs: it is never NULL. A block takes at least two
- * bytes of the index, so a table of half the length of the index has room, and the index is decoded once. Where there
- * is no memory for that, it is decoded twice. */
+/* Gives the rows as much memory as they need, and that of one more: so they are never NULL. */
+static int fit_rows(zevk_file *file) {
+    zevk_block *rows = realloc(file->rows, (file->count + 1) * sizeof *rows);
+    if (rows == NULL) {
+        return ZEVK_NO_MEMORY;
+    }
+    file->rows = rows;
+    return 0;
+}
+
+/* Opens the store, with a check of its whole index, and makes its table. A block takes at least two bytes of the index,
+ * so a table of half the length of the index has room, and the index is decoded once. Where there is no memory for
+ * that, it is decoded twice. */
 static int fill_table(zevk_file *file) {
     size_t end = file->len < FOOTER_LEN ? 0 : file->len - FOOTER_LEN;
     size_t start = index_start(file);
     size_t room = start < end ? (end - start) / 2 : 0;
-    file->table = malloc((room + 1) * sizeof *file->table);
-    room = file->table == NULL ? 0 : room;
-    uint32_t error = zevk_open(file->bytes, file->len, file->table, room, &file->blocks, &file->num_docs);
+    file->rows = malloc((room + 1) * sizeof *file->rows);
+    room = file->rows == NULL ? 0 : room;
+    uint32_t error = zevk_open(file->bytes, file->len, file->rows, room, &file->blocks, &file->num_docs);
     if (error != ZEVK_DONE && error != ZEVK_NO_ROOM) {
         return (int)error;
     }
-    zevk_block *table = realloc(file->table, (file->blocks + 1) * sizeof *table);
-    if (table == NULL) {
-        return ZEVK_NO_MEMORY;
+    file->count = file->blocks;
+    int no_memory = fit_rows(file);
+    if (no_memory != 0) {
+        return no_memory;
     }
-    file->table = table;
     if (error == ZEVK_NO_ROOM) {
-        error = zevk_open(file->bytes, file->len, file->table, file->blocks, &file->blocks, &file->num_docs);
+        error = zevk_open(file->bytes, file->len, file->rows, file->count, &file->blocks, &file->num_docs);
     }
     return (int)error;
+}
+
+/* Opens the store by its footer and the top layers of its index, and makes its outline. */
+static int fill_outline(zevk_file *file) {
+    uint32_t error = zevk_num_docs(file->bytes, file->len, &file->num_docs);
+    if (error != ZEVK_DONE) {
+        return (int)error;
+    }
+    file->rows = malloc(OUTLINE_ROWS * sizeof *file->rows);
+    if (file->rows == NULL) {
+        return ZEVK_NO_MEMORY;
+    }
+    error = zevk_outline(file->bytes, file->len, file->rows, OUTLINE_ROWS, &file->count, &file->height);
+    return error != ZEVK_DONE ? (int)error : fit_rows(file);
 }
 
 /* Tells the system that reads of the file will be far apart. The check before it has read the index in order. */
@@ -130,10 +155,9 @@ int zevk_open_descriptor(int descriptor, unsigned flags, zevk_file **opened) {
     if (file == NULL) {
         return ZEVK_NO_MEMORY;
     }
-    int is_unchecked = (flags & ZEVK_FILE_UNCHECKED) != 0;
     int error = map_file(file, descriptor);
     if (error == 0) {
-        error = is_unchecked ? (int)zevk_num_docs(file->bytes, file->len, &file->num_docs) : fill_table(file);
+        error = (flags & ZEVK_FILE_CHECKED) != 0 ? fill_table(file) : fill_outline(file);
     }
     if (error == 0 && (flags & ZEVK_FILE_SCATTERED) != 0) {
         error = scatter(file);
@@ -162,7 +186,7 @@ int zevk_descriptor(int folder, const char *path) {
 }
 
 int zevk_file_open(const char *path, unsigned flags, zevk_file **file) {
-    if ((flags & ~(ZEVK_FILE_UNCHECKED | ZEVK_FILE_SCATTERED)) != 0) {
+    if ((flags & ~(ZEVK_FILE_CHECKED | ZEVK_FILE_SCATTERED)) != 0) {
         return zevk_returned(-EINVAL);
     }
     int descriptor = zevk_descriptor(AT_FDCWD, path);
@@ -181,7 +205,7 @@ void zevk_file_close(zevk_file *file) {
     if (file->bytes != NULL) {
         munmap((void *)file->bytes, file->len);
     }
-    free(file->table);
+    free(file->rows);
     free(file);
 }
 
@@ -215,25 +239,14 @@ __attribute__((cold, noinline)) static void ask_for_both(const zevk_file *file, 
     ask_for(file, block.start + (size_t)((double)(block.len - table_len) * (double)before / (double)documents));
 }
 
-/* Gets a document of a file that has no table. */
-static int get_without_table(const zevk_file *file, uint32_t doc_id, zevk_document *document) {
-    zevk_place place;
-    uint32_t error = zevk_get(file->bytes, file->len, doc_id, &place);
-    if (error == ZEVK_DONE) {
-        *document = (zevk_document){file->bytes + place.start, place.len};
-    }
-    return (int)error;
-}
-
 int zevk_file_get(const zevk_file *file, uint32_t doc_id, zevk_document *document) {
     zevk_place place;
     if (file->page != 0) {
         ask_for_both(file, doc_id);
     }
-    if (file->table == NULL) {
-        return get_without_table(file, doc_id, document);
-    }
-    uint32_t error = zevk_proved_locate(file->bytes, file->len, file->table, file->blocks, doc_id, &place);
+    uint32_t error = file->height == 0
+        ? zevk_proved_locate(file->bytes, file->len, file->rows, file->count, doc_id, &place)
+        : zevk_get_by(file->bytes, file->len, file->rows, file->count, file->height, doc_id, &place);
     if (error == ZEVK_DONE) {
         *document = (zevk_document){file->bytes + place.start, place.len};
     }
@@ -248,8 +261,8 @@ void zevk_cursor_begin(zevk_cursor *cursor, const zevk_file *file, uint32_t firs
 static int find_places(zevk_cursor *cursor) {
     const zevk_file *file = cursor->file;
     size_t count = 0;
-    uint32_t error = file->table != NULL
-        ? zevk_locate_run(file->bytes, file->len, file->table, file->blocks, cursor->next, cursor->places,
+    uint32_t error = file->height == 0
+        ? zevk_locate_run(file->bytes, file->len, file->rows, file->count, cursor->next, cursor->places,
                           ZEVK_CURSOR_RUN, &count)
         : zevk_get_run(file->bytes, file->len, cursor->next, cursor->places, ZEVK_CURSOR_RUN, &count);
     cursor->at = 0;
@@ -265,6 +278,22 @@ int zevk_cursor_next(zevk_cursor *cursor, zevk_document *document) {
         *document = (zevk_document){cursor->file->bytes + place.start, place.len};
     }
     cursor->next += error == 0 || error == ZEVK_DAMAGED_DOCUMENT;
+    return error;
+}
+
+int zevk_cursor_get(zevk_cursor *cursor, uint32_t doc_id, zevk_document *document) {
+    uint32_t first = cursor->next - cursor->at;
+    if (doc_id - first < cursor->count) {
+        cursor->at = doc_id - first;
+        cursor->next = doc_id;
+    }
+    if (doc_id == cursor->next) {
+        return zevk_cursor_next(cursor, document);
+    }
+    int error = zevk_file_get(cursor->file, doc_id, document);
+    cursor->doc_id = doc_id;
+    cursor->next = error == 0 ? doc_id + 1 : doc_id;
+    cursor->at = cursor->count = 0;
     return error;
 }
 

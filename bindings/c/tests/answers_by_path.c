@@ -13,7 +13,7 @@ enum { FIRST = 200 };
 
 /* The file without the check of the whole index and a cursor give what a get gives. */
 static int get(const zevk_file *file, const zevk_file *unchecked, uint32_t doc_id, zevk_document *document) {
-    zevk_document others[3] = {{NULL, 0}, {NULL, 0}, {NULL, 0}};
+    zevk_document others[4] = {{NULL, 0}, {NULL, 0}, {NULL, 0}, {NULL, 0}};
     zevk_cursor cursor;
     int error = zevk_file_get(file, doc_id, document);
     WANT(zevk_file_get(unchecked, doc_id, &others[0]) == error);
@@ -21,7 +21,8 @@ static int get(const zevk_file *file, const zevk_file *unchecked, uint32_t doc_i
     WANT(zevk_cursor_next(&cursor, &others[1]) == error && cursor.doc_id == doc_id);
     zevk_cursor_begin(&cursor, unchecked, doc_id);
     WANT(zevk_cursor_next(&cursor, &others[2]) == error);
-    for (size_t at = 0; at < 3 && error == 0; at++) {
+    WANT(zevk_cursor_get(&cursor, doc_id, &others[3]) == error);
+    for (size_t at = 0; at < 4 && error == 0; at++) {
         WANT(others[at].len == document->len && memcmp(others[at].bytes, document->bytes, document->len) == 0);
     }
     return error;
@@ -43,13 +44,13 @@ static void print_document(const zevk_file *file, const zevk_file *unchecked, ui
 
 static void print_file(const char *path) {
     zevk_file *file = NULL, *unchecked = NULL;
-    int error = zevk_file_open(path, 0, &file);
+    int error = zevk_file_open(path, ZEVK_FILE_CHECKED, &file);
     if (error != 0) {
         printf("error %d\n", error);
         return;
     }
     uint32_t num_docs = zevk_file_num_docs(file);
-    WANT(zevk_file_open(path, ZEVK_FILE_UNCHECKED, &unchecked) == 0 && zevk_file_num_docs(unchecked) == num_docs);
+    WANT(zevk_file_open(path, 0, &unchecked) == 0 && zevk_file_num_docs(unchecked) == num_docs);
     printf("docs %" PRIu32 "\n", num_docs);
     for (uint32_t doc_id = 0; doc_id < num_docs && doc_id < FIRST; doc_id++) {
         print_document(file, unchecked, doc_id);

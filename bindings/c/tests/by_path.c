@@ -44,12 +44,38 @@ static int is_text(zevk_document found, uint32_t number) {
     return found.len == len && memcmp(found.bytes, text, len) == 0;
 }
 
+/* A cursor gives each document: in order, in the other order, twice, and far apart. It stays after an error. */
+static void gets_by_a_cursor(const zevk_file *file, uint32_t first, uint32_t count) {
+    zevk_cursor cursor;
+    zevk_document found = {NULL, 77};
+    zevk_cursor_begin(&cursor, file, count / 2);
+    for (uint32_t at = 0; at < count; at++) {
+        const uint32_t ids[] = {at, at, count - 1 - at, at * 37 % count, at};
+        for (size_t time = 0; time < sizeof ids / sizeof *ids; time++) {
+            WANT(zevk_cursor_get(&cursor, ids[time], &found) == 0 && cursor.doc_id == ids[time]);
+            WANT(is_text(found, first + ids[time]));
+        }
+    }
+    for (uint32_t id = 0; id < count; id++) {
+        WANT(zevk_cursor_get(&cursor, id, &found) == 0 && cursor.doc_id == id && is_text(found, first + id));
+    }
+    found.len = 77;
+    WANT(zevk_cursor_get(&cursor, count, &found) == ZEVK_NO_DOCUMENT && cursor.doc_id == count && found.len == 77);
+    WANT(zevk_cursor_get(&cursor, UINT32_MAX, &found) == ZEVK_NO_DOCUMENT && found.len == 77);
+    WANT(zevk_cursor_next(&cursor, &found) == ZEVK_NO_DOCUMENT);
+    if (count > 1) {
+        WANT(zevk_cursor_get(&cursor, 0, &found) == 0 && zevk_cursor_next(&cursor, &found) == 0);
+        WANT(is_text(found, first + 1));
+    }
+}
+
 /* A store has these documents, by number and in order. */
 static void has_documents(const char *path, unsigned flags, uint32_t first, uint32_t end) {
     zevk_file *file = NULL;
     zevk_document found = {NULL, 77};
     zevk_cursor cursor;
     WANT(zevk_file_open(path, flags, &file) == 0 && zevk_file_num_docs(file) == end - first);
+    gets_by_a_cursor(file, first, end - first);
     WANT(zevk_file_get(file, end - first, &found) == ZEVK_NO_DOCUMENT && found.len == 77);
     WANT(zevk_file_get(file, UINT32_MAX, &found) == ZEVK_NO_DOCUMENT && found.len == 77);
     for (uint32_t id = 0; id < end - first; id++) {
@@ -71,7 +97,7 @@ static void has_facts(const char *path, uint32_t documents, unsigned period) {
     zevk_file *file = NULL;
     zevk_facts facts;
     zevk_fault fault;
-    WANT(zevk_file_open(path, 0, &file) == 0);
+    WANT(zevk_file_open(path, ZEVK_FILE_CHECKED, &file) == 0);
     zevk_file_facts(file, &facts);
     WANT(facts.num_docs == documents && facts.version == 3 && facts.period == period);
     WANT((facts.blocks == 0) == (documents == 0) && facts.blocks <= documents);
@@ -90,9 +116,9 @@ static void are_written_and_read(void) {
         unsigned period = periods[at / 4 % 3];
         write_store(path, 3, 3 + count, sizes[at / 12], period);
         has_documents(path, 0, 3, 3 + count);
-        has_documents(path, ZEVK_FILE_UNCHECKED, 3, 3 + count);
+        has_documents(path, ZEVK_FILE_CHECKED, 3, 3 + count);
         has_documents(path, ZEVK_FILE_SCATTERED, 3, 3 + count);
-        has_documents(path, ZEVK_FILE_UNCHECKED | ZEVK_FILE_SCATTERED, 3, 3 + count);
+        has_documents(path, ZEVK_FILE_CHECKED | ZEVK_FILE_SCATTERED, 3, 3 + count);
         has_facts(path, count, period);
     }
 }
@@ -138,8 +164,8 @@ static void are_stacked(void) {
     zevk_file_writer *writer = NULL, *other = NULL;
     zevk_file *checked = NULL, *unchecked = NULL;
     write_store(in_folder("middle"), 10, 200, 300, 4);
-    WANT(zevk_file_open(in_folder("middle"), 0, &checked) == 0);
-    WANT(zevk_file_open(in_folder("middle"), ZEVK_FILE_UNCHECKED, &unchecked) == 0);
+    WANT(zevk_file_open(in_folder("middle"), ZEVK_FILE_CHECKED, &checked) == 0);
+    WANT(zevk_file_open(in_folder("middle"), 0, &unchecked) == 0);
     WANT(zevk_file_create(in_folder("stacked"), 0, 300, 8, &writer) == 0);
     WANT(zevk_file_create(in_folder("other"), 0, 300, 8, &other) == 0);
     put_documents(writer, 0, 10);

@@ -30,7 +30,7 @@ int main(int argc, char **argv) {
     zevk_file *file = NULL;
     zevk_facts facts;
     size_t rows = 0;
-    WANT(argc == 4 && zevk_file_open(argv[3], 0, &file) == 0);
+    WANT(argc == 4 && zevk_file_open(argv[3], ZEVK_FILE_CHECKED, &file) == 0);
     zevk_file_facts(file, &facts);
     zevk_block *table = table_of(facts.bytes, facts.len, &rows);
     uint32_t count = (uint32_t)strtoul(argv[2], NULL, 10);

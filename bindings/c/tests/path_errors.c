@@ -50,36 +50,39 @@ static int opening(const char *path, unsigned flags) {
     return error;
 }
 
-/* An opening of bytes gives the error of zevk_open. Without the whole check it gives that of zevk_num_docs. */
-static void opens_as_in_memory(const uint8_t *bytes, size_t len) {
+/* An opening gives this error, or a file with this number of documents. */
+static void is_opened(unsigned flags, uint32_t error, uint32_t num_docs) {
     zevk_file *file = NULL;
+    WANT(zevk_file_open("changed", flags, &file) == (int)error && (file == NULL) == (error != ZEVK_DONE));
+    WANT(file == NULL || zevk_file_num_docs(file) == num_docs);
+    zevk_file_close(file);
+}
+
+/* An opening of bytes gives the error of zevk_open. Without the whole check it gives that of zevk_num_docs, or that of
+ * zevk_outline. */
+static void opens_as_in_memory(const uint8_t *bytes, size_t len) {
     uint32_t num_docs = 77;
-    size_t count = 0;
-    zevk_block table[2];
+    size_t count = 0, height = 0;
+    zevk_block rows[1024];
     uint8_t *copy = (uint8_t *)tight(bytes, len);
     write_file("changed", bytes, len);
-    WANT(zevk_file_open("changed", 0, &file) == (int)zevk_open(copy, len, table, 2, &count, &num_docs));
-    WANT(file == NULL || zevk_file_num_docs(file) == num_docs);
-    zevk_file_close(file);
-    file = NULL;
-    uint32_t opened = zevk_open(copy, len, table, 2, &count, &num_docs);
-    WANT(zevk_file_open("changed", ZEVK_FILE_SCATTERED, &file) == (int)opened);
-    WANT(file == NULL || zevk_file_num_docs(file) == num_docs);
-    zevk_file_close(file);
-    file = NULL;
-    WANT(zevk_file_open("changed", ZEVK_FILE_UNCHECKED, &file) == (int)zevk_num_docs(copy, len, &num_docs));
-    WANT(file == NULL || zevk_file_num_docs(file) == num_docs);
-    zevk_file_close(file);
+    uint32_t error = zevk_open(copy, len, rows, 2, &count, &num_docs);
+    is_opened(ZEVK_FILE_CHECKED, error, num_docs);
+    is_opened(ZEVK_FILE_CHECKED | ZEVK_FILE_SCATTERED, error, num_docs);
+    error = zevk_num_docs(copy, len, &num_docs);
+    error = error == ZEVK_DONE ? zevk_outline(copy, len, rows, 1024, &count, &height) : error;
+    is_opened(0, error, num_docs);
+    is_opened(ZEVK_FILE_SCATTERED, error, num_docs);
     free(copy);
 }
 
 static void files_are_refused(void) {
     uint8_t bytes[52];
-    WANT(opening("none", 0) == -ENOENT && opening("none", ZEVK_FILE_UNCHECKED) == -ENOENT);
+    WANT(opening("none", 0) == -ENOENT && opening("none", ZEVK_FILE_CHECKED) == -ENOENT);
     WANT(opening(".", 0) == ZEVK_NOT_PLAIN_FILE && opening("/dev/null", 0) == ZEVK_NOT_PLAIN_FILE);
     WANT(mkfifo("pipe", 0600) == 0 && opening("pipe", 0) == ZEVK_NOT_PLAIN_FILE);
     write_file("short", two, 27);
-    WANT(opening("short", 0) == ZEVK_SHORT_FILE && opening("short", ZEVK_FILE_UNCHECKED) == ZEVK_SHORT_FILE);
+    WANT(opening("short", 0) == ZEVK_SHORT_FILE && opening("short", ZEVK_FILE_CHECKED) == ZEVK_SHORT_FILE);
     for (size_t len = 0; len <= sizeof two; len++) {
         opens_as_in_memory(two, len);
     }
@@ -93,16 +96,17 @@ static void files_are_refused(void) {
 /* Flags that the library doesn't know are refused, also beside one that it knows, and for a name that has no file. */
 static void unknown_flags_are_refused(void) {
     write_file("flags", two, sizeof two);
-    for (unsigned bit = 1; bit < 32; bit++) {
-        if (1u << bit != ZEVK_FILE_SCATTERED) {
+    const unsigned known = ZEVK_FILE_CHECKED | ZEVK_FILE_SCATTERED;
+    for (unsigned bit = 0; bit < 32; bit++) {
+        if ((1u << bit & known) == 0) {
             WANT(opening("flags", 1u << bit) == -EINVAL && opening("none", 1u << bit) == -EINVAL);
-            WANT(opening("flags", ZEVK_FILE_UNCHECKED | ZEVK_FILE_SCATTERED | 1u << bit) == -EINVAL);
+            WANT(opening("flags", known | 1u << bit) == -EINVAL);
         }
     }
     for (unsigned bit = 0; bit < 32; bit++) {
         zevk_file_writer *writer = NULL;
         int is_known = 1u << bit == ZEVK_FILE_REPLACE;
-        unsigned flags = ZEVK_FILE_REPLACE | (is_known ? ZEVK_FILE_UNCHECKED : 1u << bit);
+        unsigned flags = ZEVK_FILE_REPLACE | (is_known ? ZEVK_FILE_CHECKED : 1u << bit);
         errno = 0;
         WANT(zevk_file_create("flags", flags, 16384, 8, &writer) == -EINVAL && errno == EINVAL && writer == NULL);
         WANT(is_known || zevk_file_create("none", 1u << bit, 16384, 1, &writer) == -EINVAL);
@@ -291,9 +295,9 @@ int main(int argc, char **argv) {
     files_are_refused();
     unknown_flags_are_refused();
     damage_is_passed(0);
-    damage_is_passed(ZEVK_FILE_UNCHECKED);
+    damage_is_passed(ZEVK_FILE_CHECKED);
     damage_is_passed(ZEVK_FILE_SCATTERED);
-    damage_is_passed(ZEVK_FILE_UNCHECKED | ZEVK_FILE_SCATTERED);
+    damage_is_passed(ZEVK_FILE_CHECKED | ZEVK_FILE_SCATTERED);
     other_second_files_are_refused();
     files_are_not_replaced_unasked();
     writers_are_refused();

@@ -84,7 +84,7 @@ static void *work(void *given) {
         has_documents(shared->files[1], round + (uint32_t)shared->number);
     }
     is_opened_again(shared, 0);
-    is_opened_again(shared, ZEVK_FILE_UNCHECKED);
+    is_opened_again(shared, ZEVK_FILE_CHECKED);
     is_stacked(shared);
     return NULL;
 }
@@ -99,7 +99,7 @@ int main(int argc, char **argv) {
     WANT(zevk_file_create(path, 0, 300, 8, &writer) == 0);
     write_documents(writer);
     WANT(zevk_file_publish(writer) == 0);
-    WANT(zevk_file_open(path, 0, &checked) == 0 && zevk_file_open(path, ZEVK_FILE_UNCHECKED, &unchecked) == 0);
+    WANT(zevk_file_open(path, ZEVK_FILE_CHECKED, &checked) == 0 && zevk_file_open(path, 0, &unchecked) == 0);
     for (int i = 0; i < THREADS; i++) {
         shared[i].folder = argv[1];
         shared[i].path = path;

@@ -78,7 +78,7 @@ int main(int argc, char **argv) {
     Writer more = Writer::append(path, 100);
     WANT(more.put(std::string(200, 'x')) == 2);
     more.publish();
-    const File file(path), unchecked(path, ZEVK_FILE_UNCHECKED);
+    const File file(path, ZEVK_FILE_CHECKED), unchecked(path);
     const std::vector<std::string> wanted = {"apple", "", std::string(200, 'x')};
     WANT(documents_of(file) == wanted && documents_of(unchecked) == wanted);
     WANT(error_of([&] { WANT(file[3].empty()); }) == ZEVK_NO_DOCUMENT);
