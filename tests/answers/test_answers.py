@@ -37,11 +37,13 @@ def by_ranges(path):
 
 def answers_of(path):
     try:
-        with Store(path) as store, by_ranges(path) as ranged:
+        with Store(path) as store, Store(path, check=False) as unchecked, by_ranges(path) as ranged:
             num_docs = len(store)
+            assert len(unchecked) == num_docs, path
             numbers = [*range(min(num_docs, {FIRST})), (num_docs - 1) % {NUMBERS}, num_docs]
             answers = [document_of(store, doc_id) for doc_id in numbers]
-            assert [document_of(ranged, doc_id) for doc_id in numbers] == answers, path
+            for other in (unchecked, ranged):
+                assert [document_of(other, doc_id) for doc_id in numbers] == answers, path
             return [f"docs {{num_docs}}"] + answers
     except Refused as refusal:
         return [f"error {{refusal.number}}"]

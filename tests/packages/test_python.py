@@ -26,7 +26,7 @@ with Store("words.store") as store:
 THIS = "%d.%d" % sys.version_info[:2]
 # A program of a user, for a type checker, and a line that has another type.
 TYPED = """
-from typing import List
+from typing import List, Optional
 
 from zevkhadun import RangedStore, Store, Stores, Writer
 
@@ -35,7 +35,8 @@ first: bytes = store[0]
 two: List[bytes] = store[0:2]
 many: List[bytes] = store.get_many([1, 2])
 view: memoryview = store.view(0)
-stores: bytes = Stores(["b.store", store])[0]
+blocks: Optional[int] = Store("a.store", check=False).num_blocks
+stores: bytes = Stores(["b.store", store], check=False)[0]
 ranged: bytes = RangedStore(lambda start, length: bytes(length), 28)[0]
 with Writer("c.store") as writer:
     number: int = writer.put(b"apple")

@@ -13,6 +13,7 @@ struct zevk_file {
     size_t blocks;         /* with ZEVK_FILE_CHECKED, else 0 */
     uint32_t num_docs;
     size_t page;           /* the bytes of a page of memory with ZEVK_FILE_SCATTERED, else 0 */
+    int is_by_table;       /* a get looks at the table, and does nothing before */
 };
 
 /* zevk_locate without the look for arrays of length 0 (null_arrays.c): an open file has bytes, and its table a row. */

@@ -102,28 +102,33 @@ static int fit_rows(zevk_file *file) {
     return 0;
 }
 
-/* Opens the store, with a check of its whole index, and makes its table. A block takes at least two bytes of the index,
- * so a table of half the length of the index has room, and the index is decoded once. Where there is no memory for
- * that, it is decoded twice. */
+/* Opens the store with a check of its whole index, and a table of this many rows. It has a row more, so it is NULL only
+ * where there is no memory; then it has no rows. */
+static uint32_t open_table(zevk_file *file, size_t rows) {
+    free(file->rows);
+    file->rows = malloc((rows + 1) * sizeof *file->rows);
+    size_t room = file->rows == NULL ? 0 : rows;
+    return zevk_open(file->bytes, file->len, file->rows, room, &file->blocks, &file->num_docs);
+}
+
+/* Opens the store and makes its table. A block takes at least two bytes of the index, so a table of half the length of
+ * the index has room, and the index is decoded once. Where there is no memory for that, also beside what zevk_open
+ * takes itself, the blocks are counted first. */
 static int fill_table(zevk_file *file) {
     size_t end = file->len < FOOTER_LEN ? 0 : file->len - FOOTER_LEN;
     size_t start = index_start(file);
-    size_t room = start < end ? (end - start) / 2 : 0;
-    file->rows = malloc((room + 1) * sizeof *file->rows);
-    room = file->rows == NULL ? 0 : room;
-    uint32_t error = zevk_open(file->bytes, file->len, file->rows, room, &file->blocks, &file->num_docs);
-    if (error != ZEVK_DONE && error != ZEVK_NO_ROOM) {
-        return (int)error;
-    }
-    file->count = file->blocks;
-    int no_memory = fit_rows(file);
-    if (no_memory != 0) {
-        return no_memory;
+    uint32_t error = open_table(file, start < end ? (end - start) / 2 : 0);
+    if (error == ZEVK_NO_MEMORY) {
+        error = open_table(file, 0);
     }
     if (error == ZEVK_NO_ROOM) {
-        error = zevk_open(file->bytes, file->len, file->rows, file->count, &file->blocks, &file->num_docs);
+        error = open_table(file, file->blocks);
     }
-    return (int)error;
+    if (error != ZEVK_DONE) {
+        return error == ZEVK_NO_ROOM ? ZEVK_NO_MEMORY : (int)error;
+    }
+    file->count = file->blocks;
+    return fit_rows(file);
 }
 
 /* Opens the store by its footer and the top layers of its index, and makes its outline. */
@@ -166,6 +171,7 @@ int zevk_open_descriptor(int descriptor, unsigned flags, zevk_file **opened) {
         zevk_file_close(file);
         return error;
     }
+    file->is_by_table = file->height == 0 && file->page == 0;
     *opened = file;
     return 0;
 }
@@ -220,9 +226,8 @@ static void ask_for(const zevk_file *file, size_t at) {
 }
 
 /* Asks for the pages of a get at once: that of the document's entry in the table of its block, and the one in which
- * the document begins if those of the block have one length. It stays out of the gets that don't ask, which it would
- * slow. */
-__attribute__((cold, noinline)) static void ask_for_both(const zevk_file *file, uint32_t doc_id) {
+ * the document begins if those of the block have one length. */
+static void ask_for_both(const zevk_file *file, uint32_t doc_id) {
     zevk_block_place block;
     size_t wanted;
     if (zevk_block_of(file->bytes, file->len, file->len, doc_id, &block, &wanted) != ZEVK_DONE) {
@@ -239,14 +244,22 @@ __attribute__((cold, noinline)) static void ask_for_both(const zevk_file *file, 
     ask_for(file, block.start + (size_t)((double)(block.len - table_len) * (double)before / (double)documents));
 }
 
-int zevk_file_get(const zevk_file *file, uint32_t doc_id, zevk_document *document) {
-    zevk_place place;
+/* Where a document lies, of a file whose gets do more than to look at a table. It is no part of zevk_file_get, which it
+ * would slow. */
+__attribute__((noinline)) static uint32_t place_of(const zevk_file *file, uint32_t doc_id, zevk_place *place) {
     if (file->page != 0) {
         ask_for_both(file, doc_id);
     }
-    uint32_t error = file->height == 0
+    return file->height == 0
+        ? zevk_proved_locate(file->bytes, file->len, file->rows, file->count, doc_id, place)
+        : zevk_get_by(file->bytes, file->len, file->rows, file->count, file->height, doc_id, place);
+}
+
+int zevk_file_get(const zevk_file *file, uint32_t doc_id, zevk_document *document) {
+    zevk_place place;
+    uint32_t error = file->is_by_table
         ? zevk_proved_locate(file->bytes, file->len, file->rows, file->count, doc_id, &place)
-        : zevk_get_by(file->bytes, file->len, file->rows, file->count, file->height, doc_id, &place);
+        : place_of(file, doc_id, &place);
     if (error == ZEVK_DONE) {
         *document = (zevk_document){file->bytes + place.start, place.len};
     }

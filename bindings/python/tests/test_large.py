@@ -1,12 +1,29 @@
 """Stores that are larger than memory, and documents that are long."""
 
 import os
+import subprocess
+import sys
 import tempfile
 import tracemalloc
 import unittest
 
 from sparse import BLOCK, PERIOD, last_of, write_sparse
 from zevkhadun import RangedStore, Store, Stores, Writer
+
+# Opens a store with this much memory beside that of the file, and reads its last document.
+LITTLE = """
+import os, resource, sys
+from zevkhadun import NoMemory, Store
+
+with open("/proc/self/statm") as pages:
+    used = int(pages.read().split()[0]) * resource.getpagesize()
+most = used + os.path.getsize(sys.argv[1]) + int(sys.argv[2])
+resource.setrlimit(resource.RLIMIT_AS, (most, most))
+try:
+    print(Store(sys.argv[1])[-1].decode())
+except NoMemory:
+    print("no memory")
+"""
 
 
 def memory():
@@ -53,6 +70,18 @@ class Large(unittest.TestCase):
         ) as store:
             self.assertEqual((len(store), store.size), (20, os.path.getsize(self.path)))
             self.assertEqual(store.block_of(19), (18, 20, 9 * BLOCK, BLOCK))
+
+    def test_a_store_is_opened_where_there_is_little_memory(self):
+        """With too little for the longest table of its index, and with too little beside such a table."""
+        count = 100_000
+        with Writer(self.path, block_size=1, period=2) as writer:
+            writer.extend(b"%d" % number for number in range(count))
+        with Store(self.path) as store:
+            longest = 8 * (store.size - store.data_size)
+        self.assertGreater(longest, 50 * count)
+        for room, printed in [(longest // 9, "no memory"), (longest * 3 // 4, "99999"), (longest + (1 << 20), "99999")]:
+            command = [sys.executable, "-c", LITTLE, self.path, str(room)]
+            self.assertEqual(subprocess.check_output(command, text=True, timeout=60), f"{printed}\n")
 
     def test_an_iteration_holds_one_document_at_a_time(self):
         count, length = 10, 10 << 20

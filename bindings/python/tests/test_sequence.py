@@ -232,7 +232,7 @@ class Kinds(InFile):
     def test_a_store_is_opened_once(self):
         with Store(FILE) as store:
             with self.assertRaises(RuntimeError):
-                store._open_buffer(FILE)
+                store._open_buffer(FILE, True)
             self.assertEqual(list(store), DOCUMENTS)
         unopened = Store.__new__(Store)
         for call in [unopened.verify, unopened._footer, lambda: unopened[:], lambda: list(unopened)]:

@@ -41,12 +41,15 @@ fn main() -> std::io::Result<()> {
                 println!("docs {}", store.len());
                 let read = |start: u64, len: usize| Ok(file[start as usize..][..len].to_vec());
                 let ranged = RangedStore::open(read, file.len() as u64).expect("a store by ranges");
-                assert_eq!(ranged.len(), store.len());
+                let unchecked =
+                    Store::open_without_check(&file).expect("a store without the check");
+                assert_eq!((ranged.len(), unchecked.len()), (store.len(), store.len()));
                 let count = store.facts().documents;
                 let first = 0..count.min(FIRST);
                 for doc_id in first.chain([count.wrapping_sub(1), count]) {
                     let answer = store.get(doc_id);
                     assert_eq!(zevkhadun::get(&file, doc_id), answer, "without opening");
+                    assert_eq!(unchecked.get(doc_id), answer, "without the check");
                     let same = answer.map(<[u8]>::to_vec);
                     assert_eq!(by_ranges(ranged.get(doc_id)), same, "by ranges");
                     println!("{}", text_of(answer));

@@ -1,8 +1,8 @@
 //! Iterators.
 
-use crate::error::{check, Refusal};
-use crate::raw::{self, Block, Place};
-use crate::store::place;
+use crate::error::Refusal;
+use crate::raw::Place;
+use crate::rows::Rows;
 use std::fmt;
 use std::iter::FusedIterator;
 
@@ -31,7 +31,7 @@ const RUN: usize = 64;
 #[must_use = "iterators are lazy"]
 pub struct Documents<'s> {
     file: &'s [u8],
-    table: &'s [Block],
+    rows: &'s Rows,
     next: u32,
     end: u32,
     places: [Place; RUN],
@@ -41,10 +41,10 @@ pub struct Documents<'s> {
 }
 
 impl<'s> Documents<'s> {
-    pub(crate) fn new(file: &'s [u8], table: &'s [Block], next: u32, end: u32) -> Documents<'s> {
+    pub(crate) fn new(file: &'s [u8], rows: &'s Rows, next: u32, end: u32) -> Documents<'s> {
         Documents {
             file,
-            table,
+            rows,
             next,
             end,
             places: [Place::default(); RUN],
@@ -53,7 +53,8 @@ impl<'s> Documents<'s> {
         }
     }
 
-    /// The documents that aren't damaged, each with its number.
+    /// The documents that aren't damaged, each with its number. Each one that is an error is left out: of a store that
+    /// was opened without the check also those that a damaged index doesn't lead to.
     ///
     /// ```
     /// # let mut writer = zevkhadun::Writer::new(Vec::new());
@@ -74,24 +75,13 @@ impl<'s> Documents<'s> {
     /// Asks for the next places. An error is that of the next document.
     fn refill(&mut self) -> Result<(), Refusal> {
         let wanted = RUN.min(self.len());
-        (self.at, self.found) = (0, 0);
-        // SAFETY: pointers and lengths are those of slices, and at most RUN places are wanted, which are ours.
-        let answer = unsafe {
-            raw::zevk_locate_run(
-                self.file.as_ptr(),
-                self.file.len(),
-                self.table.as_ptr(),
-                self.table.len(),
-                self.next,
-                self.places.as_mut_ptr(),
-                wanted,
-                &mut self.found,
-            )
-        };
-        if self.found > 0 {
-            return Ok(());
+        let places = &mut self.places[..wanted];
+        let (found, end) = self.rows.places(self.file, self.next, places);
+        (self.at, self.found) = (0, found);
+        match found {
+            0 => end,
+            _ => Ok(()),
         }
-        check(answer)
     }
 }
 
@@ -142,7 +132,8 @@ impl DoubleEndedIterator for Documents<'_> {
             return None;
         }
         self.end -= 1;
-        Some(place(self.file, self.table, self.end).map(|place| place.of(self.file)))
+        let place = self.rows.place(self.file, self.end);
+        Some(place.map(|place| place.of(self.file)))
     }
 
     fn nth_back(&mut self, n: usize) -> Option<Self::Item> {

@@ -36,7 +36,8 @@
 //!
 //! A [`Store`] takes the bytes of a file from any type that has them: a vector, a slice, an `Arc<[u8]>`, or a file that
 //! a crate such as `memmap2` mapped. A mapped file must not be cut while it is read, or the program ends with SIGBUS.
-//! [`get`] reads one document and opens nothing, and [`verify`] checks a whole file.
+//! [`Store::open_without_check`] opens a large file as quickly as a small one, [`get`] reads one document and opens
+//! nothing, and [`verify`] checks a whole file.
 //!
 //! # Read it from elsewhere
 //!
@@ -62,6 +63,7 @@ mod ranged_documents;
 mod raw;
 mod read_error;
 mod renaming;
+mod rows;
 mod store;
 mod unopened;
 mod writer;

@@ -6,7 +6,7 @@
 pub(crate) struct Block {
     pub(crate) end_doc: u32,
     guide: u32,
-    pub(crate) end_byte: usize,
+    end_byte: usize,
 }
 
 /// Where a document lies in its file.
@@ -55,6 +55,14 @@ pub(crate) struct Writer {
 extern "C" {
     pub(crate) fn zevk_get(file: *const u8, file_len: usize, doc_id: u32, place: *mut Place)
         -> u32;
+    pub(crate) fn zevk_get_run(
+        file: *const u8,
+        file_len: usize,
+        first: u32,
+        places: *mut Place,
+        places_len: usize,
+        count: *mut usize,
+    ) -> u32;
     pub(crate) fn zevk_num_docs(file: *const u8, file_len: usize, num_docs: *mut u32) -> u32;
     pub(crate) fn zevk_check(file: *const u8, file_len: usize, fault: *mut Fault) -> u32;
     pub(crate) fn zevk_open(
@@ -82,6 +90,23 @@ extern "C" {
         places: *mut Place,
         places_len: usize,
         count: *mut usize,
+    ) -> u32;
+    pub(crate) fn zevk_outline(
+        file: *const u8,
+        file_len: usize,
+        rows: *mut Block,
+        rows_len: usize,
+        count: *mut usize,
+        height: *mut usize,
+    ) -> u32;
+    pub(crate) fn zevk_get_by(
+        file: *const u8,
+        file_len: usize,
+        rows: *const Block,
+        rows_len: usize,
+        height: usize,
+        doc_id: u32,
+        place: *mut Place,
     ) -> u32;
     pub(crate) fn zevk_block_of(
         tail: *const u8,

@@ -1,14 +1,14 @@
 //! Reading.
 
 use crate::documents::Documents;
-use crate::error::{check, Refusal, NO_ROOM};
+use crate::error::Refusal;
 use crate::facts::Facts;
-use crate::raw::{self, Block, Place};
+use crate::rows::Rows;
 use crate::unopened::{self, Fault};
 use std::fmt;
 use std::ops::{Bound, Range, RangeBounds};
 
-/// An open store: the bytes of its file, and a table of 16 bytes for each block.
+/// An open store: the bytes of its file, and a table of 16 bytes for each block, or an outline of at most 16 KiB.
 ///
 /// The bytes are borrowed (`Store<&[u8]>`), owned (`Store<Vec<u8>>`), shared (`Store<Arc<[u8]>>`) or mapped: `D` is any
 /// type that gives them. No call changes a store, so threads may share it.
@@ -38,7 +38,7 @@ use std::ops::{Bound, Range, RangeBounds};
 #[derive(Clone)]
 pub struct Store<D> {
     file: D,
-    table: Vec<Block>,
+    rows: Rows,
     facts: Facts,
 }
 
@@ -51,9 +51,37 @@ impl<D: AsRef<[u8]>> Store<D> {
     /// Those of a file, as for [`get`](crate::get()); [`NoMemory`](Refusal::NoMemory).
     pub fn open(file: D) -> Result<Store<D>, Refusal> {
         let bytes = file.as_ref();
-        let (table, num_docs) = opened(bytes)?;
-        let facts = Facts::of(bytes, &table, num_docs);
-        Ok(Store { file, table, facts })
+        let rows = Rows::table(bytes)?;
+        let facts = Facts::of(bytes, rows.documents(), Some(rows.len()))?;
+        Ok(Store { file, rows, facts })
+    }
+
+    /// Opens the store whose file these bytes are without the check of [`Store::open`]. It takes the same short time
+    /// for each size of file: it checks the footer, and the few parts of the index that it reads.
+    ///
+    /// A get takes longer than after `open`, since it reads a part of the index, and checks that part. So a damaged
+    /// file may be opened, and then have another number of documents, and a get may return other bytes of the file or
+    /// [`BadIndex`](Refusal::BadIndex). [`Store::verify`] checks the whole file at any time. For a single get
+    /// [`zevkhadun::get`](crate::get()) is quicker.
+    ///
+    /// # Errors
+    ///
+    /// Those of a file, as for [`get`](crate::get()); [`NoMemory`](Refusal::NoMemory).
+    ///
+    /// ```
+    /// # let mut writer = zevkhadun::Writer::new(Vec::new());
+    /// # writer.put(b"apple")?;
+    /// # let file = writer.close()?;
+    /// let store = zevkhadun::Store::open_without_check(&file)?;
+    /// assert_eq!(store.get(0)?, b"apple");
+    /// assert_eq!(store.facts().blocks, None);
+    /// # Ok::<(), Box<dyn std::error::Error>>(())
+    /// ```
+    pub fn open_without_check(file: D) -> Result<Store<D>, Refusal> {
+        let bytes = file.as_ref();
+        let rows = Rows::outline(bytes)?;
+        let facts = Facts::of(bytes, rows.documents(), None)?;
+        Ok(Store { file, rows, facts })
     }
 
     /// The number of documents.
@@ -71,10 +99,11 @@ impl<D: AsRef<[u8]>> Store<D> {
     /// # Errors
     ///
     /// [`NoDocument`](Refusal::NoDocument), if the store has no document of this number;
-    /// [`DamagedDocument`](Refusal::DamagedDocument).
+    /// [`DamagedDocument`](Refusal::DamagedDocument); if it was opened without the check, also
+    /// [`BadIndex`](Refusal::BadIndex).
     pub fn get(&self, doc_id: u32) -> Result<&[u8], Refusal> {
         let file = self.file();
-        Ok(place(file, &self.table, doc_id)?.of(file))
+        Ok(self.rows.place(file, doc_id)?.of(file))
     }
 
     /// Where a document lies in the file, in bytes: it is that range of [`Store::file`]. With it a document can be
@@ -93,7 +122,7 @@ impl<D: AsRef<[u8]>> Store<D> {
     /// # Ok::<(), Box<dyn std::error::Error>>(())
     /// ```
     pub fn locate(&self, doc_id: u32) -> Result<Range<usize>, Refusal> {
-        let place = place(self.file(), &self.table, doc_id)?;
+        let place = self.rows.place(self.file(), doc_id)?;
         Ok(place.start..place.start + place.len)
     }
 
@@ -116,7 +145,7 @@ impl<D: AsRef<[u8]>> Store<D> {
     /// ```
     pub fn range(&self, doc_ids: impl RangeBounds<u32>) -> Documents<'_> {
         let Range { start, end } = numbers_in(doc_ids, self.facts.documents);
-        Documents::new(self.file(), &self.table, start, end)
+        Documents::new(self.file(), &self.rows, start, end)
     }
 
     /// Checks the whole file, each block too, as [`verify`](crate::verify) does.
@@ -184,51 +213,4 @@ pub(crate) fn numbers_in(doc_ids: impl RangeBounds<u32>, count: u32) -> Range<u3
     let end = end.min(count);
     // Both are at most the count, which is a u32.
     start.min(end) as u32..end as u32
-}
-
-/// The table of a store's file, and its number of documents.
-fn opened(file: &[u8]) -> Result<(Vec<Block>, u32), Refusal> {
-    let (mut table, mut blocks, mut num_docs) = (Vec::new(), 0, 0);
-    let answer = fill(file, &mut table, &mut blocks, &mut num_docs);
-    if answer != NO_ROOM {
-        check(answer)?;
-        return Ok((table, num_docs));
-    }
-    table
-        .try_reserve_exact(blocks)
-        .map_err(|_| Refusal::NoMemory)?;
-    table.resize(blocks, Block::default());
-    check(fill(file, &mut table, &mut blocks, &mut num_docs))?;
-    Ok((table, num_docs))
-}
-
-fn fill(file: &[u8], table: &mut [Block], blocks: &mut usize, num_docs: &mut u32) -> u32 {
-    // SAFETY: pointers and lengths are those of slices, of which the table is exclusive, and the numbers are ours.
-    unsafe {
-        raw::zevk_open(
-            file.as_ptr(),
-            file.len(),
-            table.as_mut_ptr(),
-            table.len(),
-            blocks,
-            num_docs,
-        )
-    }
-}
-
-/// Where a document lies in a file, by any table. It lies within the file.
-pub(crate) fn place(file: &[u8], table: &[Block], doc_id: u32) -> Result<Place, Refusal> {
-    let mut place = Place::default();
-    // SAFETY: pointers and lengths are those of slices, and the place is ours.
-    check(unsafe {
-        raw::zevk_locate(
-            file.as_ptr(),
-            file.len(),
-            table.as_ptr(),
-            table.len(),
-            doc_id,
-            &mut place,
-        )
-    })?;
-    Ok(place)
 }

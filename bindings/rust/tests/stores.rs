@@ -7,7 +7,7 @@ use std::cell::Cell;
 use std::collections::HashMap;
 use std::error::Error;
 use std::sync::Arc;
-use support::{bytes_of, damaged_words, documents_of_words, words, written, EMPTY};
+use support::{bytes_of, damaged_words, documents_of_words, many_blocks, words, written, EMPTY};
 use zevkhadun::{FaultPlace, Refusal, Store};
 
 #[test]
@@ -71,23 +71,28 @@ impl AsRef<[u8]> for Changing<'_> {
     }
 }
 
+/// A store that is opened, by one call or the other.
+type Opening<D> = fn(D) -> Result<Store<D>, Refusal>;
+
 #[test]
 fn bytes_that_change_between_calls_are_safe() {
-    let file = words();
-    let cut = &file[..300];
+    let openings: [Opening<Changing>; 2] = [Store::open, Store::open_without_check];
     let other = vec![0xff; 2000];
-    for files in [[&file, cut, &other, &[]], [&file, &[], &file, cut]] {
-        let next = Cell::new(0);
-        let files = files.to_vec();
-        let store = Store::open(Changing { files, next }).unwrap();
-        for id in 0..70 {
-            let _ = store.get(id);
-            let _ = store.locate(id);
-            assert_eq!(
-                store.range(id..).count(),
-                64usize.saturating_sub(id as usize)
-            );
-            assert!(store.iter().rev().filter_map(Result::ok).count() <= 64);
+    for (file, open) in [words(), many_blocks()].iter().zip(openings) {
+        let cut = &file[..300];
+        for files in [[file, cut, &other, &[]], [file, &[], file, cut]] {
+            let next = Cell::new(0);
+            let files = files.to_vec();
+            let store = open(Changing { files, next }).unwrap();
+            for id in 0..70 {
+                let _ = store.get(id);
+                let _ = store.locate(id);
+                assert_eq!(
+                    store.range(id..).count(),
+                    store.len().saturating_sub(id as usize)
+                );
+                assert!(store.iter().rev().filter_map(Result::ok).count() <= store.len());
+            }
         }
     }
 }
@@ -128,7 +133,7 @@ fn facts_are_those_of_the_file() {
     let file = words();
     let facts = Store::open(&file).unwrap().facts();
     assert_eq!((facts.version, facts.period), (3, 3));
-    assert_eq!((facts.documents, facts.blocks), (64, 13));
+    assert_eq!((facts.documents, facts.blocks), (64, Some(13)));
     assert_eq!(facts.file_bytes, file.len());
     assert_eq!(facts.data_bytes + facts.index_bytes + 28, file.len());
     let data_bytes = u64::from_le_bytes(file[file.len() - 24..][..8].try_into().unwrap());

@@ -30,15 +30,14 @@ static int set_documents(const reader *self, PyObject *list, Py_ssize_t at, cons
 }
 
 /* Finds some places of a slice: a run of them where they follow one another, and else one. Returns how many. */
-static size_t find_places(const reader *self, Py_ssize_t number, Py_ssize_t left, Py_ssize_t step, zevk_place *places) {
+static size_t find_some(const reader *self, Py_ssize_t number, Py_ssize_t left, Py_ssize_t step, zevk_place *places) {
     size_t count = 0;
     uint32_t answer;
     if (step == 1) {
         size_t wanted = left < RUN ? (size_t)left : RUN;
-        answer = zevk_locate_run(self->file, self->len, self->table, self->rows, (uint32_t)number, places, wanted,
-                                 &count);
+        answer = find_places(self, (uint32_t)number, places, wanted, &count);
     } else {
-        answer = zevk_locate(self->file, self->len, self->table, self->rows, (uint32_t)number, places);
+        answer = find_place(self, (uint32_t)number, places);
         count = answer == 0;
     }
     if (count == 0) {
@@ -52,7 +51,7 @@ PyObject *documents_of(const reader *self, Py_ssize_t first, Py_ssize_t count, P
     PyObject *list = PyList_New(count);
     Py_ssize_t done = 0;
     while (list && done < count) {
-        size_t found = find_places(self, first + done * step, count - done, step, places);
+        size_t found = find_some(self, first + done * step, count - done, step, places);
         if (found == 0 || !set_documents(self, list, done, places, found)) {
             Py_CLEAR(list);
         }
@@ -96,7 +95,7 @@ static uint32_t find_all(const reader *self, batch *part, size_t *found) {
     uint32_t answer = 0;
     size_t at = 0;
     while (at < part->count && answer == 0) {
-        answer = zevk_locate(self->file, self->len, self->table, self->rows, part->numbers[at], &part->places[at]);
+        answer = find_place(self, part->numbers[at], &part->places[at]);
         at += answer == 0;
     }
     *found = at;
@@ -261,10 +260,8 @@ static void deallocate(PyObject *object) {
 
 /* Finds the next places. Returns the error of the next document, or 0. */
 static uint32_t find_next(documents *self) {
-    const reader *store = self->store;
     self->at = 0;
-    uint32_t answer = zevk_locate_run(store->file, store->len, store->table, store->rows, self->next, self->places, RUN,
-                                      &self->count);
+    uint32_t answer = find_places(self->store, self->next, self->places, RUN, &self->count);
     return self->count ? 0 : answer;
 }
 

@@ -1,157 +1,7 @@
 /* The type Reader: an open store, of a mapped file or of a buffer. */
 #include "core.h"
 
-#include <errno.h>
-#include <stdlib.h>
-#include <sys/mman.h>
-#include <sys/stat.h>
-
-/* How many blocks the first table has room for. */
-#define FIRST_ROWS 64
-
-/* ---- opening and closing */
-
-int check_open(const reader *self) {
-    if (!self->is_open) {
-        raise_named("Closed", "the store is closed");
-    }
-    return self->is_open;
-}
-
-/* Lets the bytes and the table go. */
-static void release(reader *self) {
-    if (self->is_mapped) {
-        munmap((void *)self->file, self->len);
-        self->is_mapped = 0;
-    }
-    if (self->buffer.obj) {
-        PyBuffer_Release(&self->buffer);
-    }
-    free(self->table);
-    self->table = NULL;
-    self->file = NULL;
-    self->len = 0;
-    self->rows = 0;
-    self->count = 0;
-}
-
-int enter_reader(reader *self) {
-    if (!check_open(self)) {
-        return 0;
-    }
-    self->users++;
-    return 1;
-}
-
-void leave_reader(reader *self) {
-    if (--self->users == 0 && !self->is_open) {
-        release(self);
-    }
-}
-
-/* Fills the table, in memory of its own. Returns the number of an error, or 0. */
-static uint32_t fill_table(reader *self) {
-    size_t room = FIRST_ROWS;
-    for (;;) {
-        zevk_block *table = realloc(self->table, room * sizeof *table);
-        if (!table) {
-            return ZEVK_NO_MEMORY;
-        }
-        self->table = table;
-        uint32_t answer = zevk_open(self->file, self->len, table, room, &self->rows, &self->count);
-        if (answer != ZEVK_NO_ROOM) {
-            return answer;
-        }
-        room = self->rows;
-    }
-}
-
-/* Opens the store of the bytes that were set. */
-static PyObject *open_bytes(reader *self) {
-    uint32_t answer;
-    Py_BEGIN_ALLOW_THREADS
-    answer = fill_table(self);
-    Py_END_ALLOW_THREADS
-    if (answer) {
-        release(self);
-        return raise_refusal(answer, self->path, NULL);
-    }
-    self->size = self->len;
-    self->blocks = self->rows;
-    self->documents = self->count;
-    self->is_open = 1;
-    Py_RETURN_NONE;
-}
-
-/* Whether nothing was opened yet. */
-static int is_new(const reader *self) {
-    if (self->path) {
-        PyErr_SetString(PyExc_RuntimeError, "the store was opened before");
-        return 0;
-    }
-    return 1;
-}
-
-/* Maps a file. An empty one needs no map. Returns whether that went well. */
-static int map_file(reader *self, int descriptor) {
-    struct stat found;
-    if (fstat(descriptor, &found) < 0) {
-        return 0;
-    }
-    if (S_ISDIR(found.st_mode)) {
-        errno = EISDIR;
-        return 0;
-    }
-    self->len = (size_t)found.st_size;
-    if (self->len == 0) {
-        return 1;
-    }
-    void *map = mmap(NULL, self->len, PROT_READ, MAP_SHARED, descriptor, 0);
-    self->is_mapped = map != MAP_FAILED;
-    self->file = self->is_mapped ? map : NULL;
-    return self->is_mapped;
-}
-
-static PyObject *open_file(PyObject *object, PyObject *arguments) {
-    reader *self = (reader *)object;
-    int descriptor;
-    PyObject *path;
-    if (!is_new(self) || !PyArg_ParseTuple(arguments, "iO", &descriptor, &path)) {
-        return NULL;
-    }
-    Py_INCREF(path);
-    self->path = path;
-    if (!map_file(self, descriptor)) {
-        return PyErr_SetFromErrnoWithFilenameObject(PyExc_OSError, path);
-    }
-    return open_bytes(self);
-}
-
-static PyObject *open_buffer(PyObject *object, PyObject *content) {
-    reader *self = (reader *)object;
-    if (!is_new(self) || PyObject_GetBuffer(content, &self->buffer, PyBUF_SIMPLE) < 0) {
-        return NULL;
-    }
-    Py_INCREF(Py_None);
-    self->path = Py_None;
-    self->file = self->buffer.buf;
-    self->len = (size_t)self->buffer.len;
-    return open_bytes(self);
-}
-
-static PyObject *close_reader(PyObject *object, PyObject *unused) {
-    reader *self = (reader *)object;
-    if (self->views) {
-        return PyErr_Format(PyExc_BufferError, "the store has views that were not released: %zd", self->views);
-    }
-    if (self->is_open) {
-        self->is_open = 0;
-        if (self->users == 0) {
-            release(self);
-        }
-    }
-    Py_RETURN_NONE;
-}
+/* ---- the collector of garbage */
 
 static int traverse(PyObject *object, visitproc visit, void *arg) {
     reader *self = (reader *)object;
@@ -166,7 +16,7 @@ static int clear(PyObject *object) {
     reader *self = (reader *)object;
     if (self->views == 0 && self->users == 0) {
         self->is_open = 0;
-        release(self);
+        release_reader(self);
     }
     return 0;
 }
@@ -174,7 +24,7 @@ static int clear(PyObject *object) {
 static void deallocate(PyObject *object) {
     reader *self = (reader *)object;
     PyObject_GC_UnTrack(object);
-    release(self);
+    release_reader(self);
     Py_CLEAR(self->path);
     free_object(object);
 }
@@ -193,7 +43,7 @@ static __attribute__((noinline)) int find_ahead(reader *self, uint32_t number) {
     size_t wanted = self->ahead_len < 4 ? 4 : 2 * (size_t)self->ahead_len;
     size_t found = 0;
     wanted = wanted < AHEAD ? wanted : AHEAD;
-    zevk_locate_run(self->file, self->len, self->table, self->rows, number, self->ahead, wanted, &found);
+    find_places(self, number, self->ahead, wanted, &found);
     self->ahead_from = number;
     self->ahead_len = (uint32_t)found;
     return found > 0;
@@ -208,7 +58,7 @@ static uint32_t locate(reader *self, uint32_t number, zevk_place *place) {
     if (at >= self->ahead_len) {
         if (!follows || !find_ahead(self, number)) {
             self->ahead_len = 0;
-            return zevk_locate(self->file, self->len, self->table, self->rows, number, place);
+            return find_place(self, number, place);
         }
         at = 0;
     }
@@ -344,9 +194,6 @@ static void release_buffer(PyObject *object, Py_buffer *given) {
 
 /* ---- facts */
 
-/* How many bytes a footer has. */
-#define FOOTER_LEN 28
-
 static PyObject *footer(PyObject *object, PyObject *unused) {
     const reader *self = (const reader *)object;
     /* An open store has a footer. */
@@ -363,21 +210,28 @@ static PyObject *get_is_open(PyObject *object, void *closure) {
 }
 
 static PyObject *get_blocks(PyObject *object, void *closure) {
-    return PyLong_FromSize_t(((reader *)object)->blocks);
+    const reader *self = (const reader *)object;
+    if (self->is_unchecked) {
+        Py_RETURN_NONE;
+    }
+    return PyLong_FromSize_t(self->blocks);
 }
 
 /* ---- the type */
 
 static PyGetSetDef members[] = {
     {"is_open", get_is_open, NULL, "Whether it was opened and not closed.", NULL},
-    {"num_blocks", get_blocks, NULL, "How many blocks of documents it has.", NULL},
+    {"num_blocks", get_blocks, NULL,
+     "How many blocks of documents it has; None if it was opened with check=False.", NULL},
     {"size", get_size, NULL, "How many bytes the file has.", NULL},
     {NULL, NULL, NULL, NULL, NULL},
 };
 
 static PyMethodDef methods[] = {
-    {"_open_file", open_file, METH_VARARGS, "Maps the file of a descriptor, whose path is given, and opens it."},
-    {"_open_buffer", open_buffer, METH_O, "Opens the store whose file these bytes are."},
+    {"_open_file", open_file, METH_VARARGS,
+     "_open_file(descriptor, path, check): maps a file, and opens it with the check of its index or without."},
+    {"_open_buffer", open_buffer, METH_VARARGS,
+     "_open_buffer(content, check): opens the store whose file these bytes are."},
     {"_footer", footer, METH_NOARGS, "The footer, the last 28 bytes of the file. Raises Closed."},
     {"_close", close_reader, METH_NOARGS, "Closes it. Raises BufferError if it has views."},
     {"get_many", get_many, METH_O,

@@ -5,6 +5,7 @@ from __future__ import annotations
 import os
 import struct
 from collections.abc import Sequence
+from functools import partial
 from typing import Any, Iterator, Literal, Optional, Tuple, Union
 
 from ._core import Documents, Reader
@@ -28,27 +29,33 @@ class Store(Reader, Closing, Sequence[bytes]):
     pickled by its path, so a process that gets it opens the file itself.
     """
 
-    def __init__(self, source: Union[Path, Buffer]) -> None:
+    def __init__(self, source: Union[Path, Buffer], *, check: bool = True) -> None:
         """Opens a store, and checks its whole index: of a file, which is mapped, or of any object with bytes.
 
         Bytes that may change must not change while the store is open.
 
+        With `check=False` it takes the same short time for each size of file: it checks the footer and the few parts
+        of the index that it reads. A get then takes longer, since it reads a part of the index, and checks that part.
+        So a damaged file may be opened, and then have another number of documents, and a get may raise BadIndex or
+        DamagedDocument, or give other bytes of the file. `verify` checks the whole file at any time.
+
         Raises OSError; NotPlainFile for a pipe or a device; ShortFile, BadVersion, BadBlockKind, BadOffset, BadPeriod
         or BadIndex if the bytes are not a store; NoMemory.
         """
+        self._check = check
         self._source: Optional[Buffer] = None
         self._path: Optional[str] = None
         self._absolute_path = ""
         if not isinstance(source, (str, os.PathLike)):
             self._source = source
-            self._open_buffer(source)
+            self._open_buffer(source, check)
             return
         self._path = os.fspath(source)
         self._absolute_path = absolute(self._path)
         descriptor = open_plain(self._path, os.O_RDONLY)
         try:
             check_plain(self._path, os.fstat(descriptor))
-            self._open_file(descriptor, self._path)
+            self._open_file(descriptor, self._path, check)
         finally:
             os.close(descriptor)
 
@@ -96,10 +103,11 @@ class Store(Reader, Closing, Sequence[bytes]):
     def __reduce__(self) -> Tuple[Any, ...]:
         if not self.is_open:
             raise TypeError("a closed store can't be pickled")
+        opening = type(self) if self._check else partial(type(self), check=False)
         if self._path is not None:
-            return type(self), (self._absolute_path,)
+            return opening, (self._absolute_path,)
         if isinstance(self._source, bytes):
-            return type(self), (self._source,)
+            return opening, (self._source,)
         raise TypeError("only a store of a path or of bytes can be pickled")
 
     def __repr__(self) -> str:

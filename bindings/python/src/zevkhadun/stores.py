@@ -25,8 +25,8 @@ class Stores(Closing, Sequence[bytes]):
     There may be more than 2^32 of them. It is pickled by the paths. Any number of threads may use it at once.
     """
 
-    def __init__(self, parts: Iterable[Part]) -> None:
-        """Takes these stores, and opens those that are given by a path. `close` closes them all.
+    def __init__(self, parts: Iterable[Part], *, check: bool = True) -> None:
+        """Takes these stores, and opens those that are given by a path, as `Store` does. `close` closes them all.
 
         Raises what `Store` raises; the stores that were opened until then are closed.
         """
@@ -35,7 +35,7 @@ class Stores(Closing, Sequence[bytes]):
         try:
             for part in parts:
                 if isinstance(part, (str, os.PathLike)):
-                    opened.append(Store(part))
+                    opened.append(Store(part, check=check))
                     part = opened[-1]
                 self._stores.append(part)
         except BaseException:

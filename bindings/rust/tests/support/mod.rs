@@ -45,6 +45,12 @@ pub fn damaged_words() -> Vec<u8> {
     file
 }
 
+/// A store of 1500 documents, each in a block of its own: more blocks than an outline has rows.
+pub fn many_blocks() -> Vec<u8> {
+    let documents: Vec<Vec<u8>> = (0..1500).map(|id| format!("{id}").into_bytes()).collect();
+    written(&documents, 1, 8)
+}
+
 /// Documents of 0, 8, 100 and 20000 bytes in turn, each of its own bytes.
 pub fn documents(count: usize, seed: usize) -> Vec<Vec<u8>> {
     let lengths = [0, 8, 100, 0, 20000, 8];
