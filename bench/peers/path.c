@@ -1,4 +1,4 @@
-/* Ours, by the calls of the library for C that take the path of a file: opened by an outline, and with all checks. */
+/* Ours, by the calls of the library for C that take the path of a file: by an outline, and with all checks. */
 #include <stdlib.h>
 #include <zevkhadun_file.h>
 

@@ -17,6 +17,7 @@ from library.compiling import ARRAYS, HEADER
 NUMBERS = {"u8": "uint8_t", "u32": "uint32_t", "DocId": "uint32_t", "usize": "size_t"}
 STRUCTS = {
     "Row": "zevk_block",
+    "StoreHead": "zevk_head",
     "BlockPlace": "zevk_block_place",
     "Fault": "zevk_fault",
     "Place": "zevk_place",
@@ -62,11 +63,21 @@ def proved(text: str) -> Iterator[str]:
             yield declaration.replace("zevk_proved_", "zevk_")
 
 
+def fields(name: str, bodies: dict[str, str]) -> Iterator[str]:
+    """The fields of a struct of the crate, as the header has them: those of a struct in it stand in its place."""
+    for field, kind in re.findall(r"pub (\w+): (\w+),", bodies[name]):
+        if kind in NUMBERS:
+            yield f"{NUMBERS[kind]} {field}"
+        else:
+            yield from fields(kind, bodies)
+
+
 def structs(text: str) -> Iterator[tuple[str, tuple[str, ...]]]:
     """The structs of the crate that C sees, as the header has them."""
-    for name, body in re.findall(r"#\[repr\(C\)\]\n#\[derive[^\n]*\npub struct (\w+) \{\n(.*?)\n\}", text, re.S):
-        fields = re.findall(r"pub (\w+): (\w+),", body)
-        yield STRUCTS[name], tuple(f"{NUMBERS[kind]} {field}" for field, kind in fields)
+    form = r"#\[repr\(C\)\]\n#\[derive[^\n]*\npub struct (\w+) \{\n(.*?)\n\}"
+    bodies = dict(re.findall(form, text, re.S))
+    for name in bodies.keys() - {"LayerMarks"}:
+        yield STRUCTS[name], tuple(fields(name, bodies))
 
 
 def declared_structs(text: str) -> Iterator[tuple[str, tuple[str, ...]]]:
@@ -88,7 +99,8 @@ class Header(unittest.TestCase):
     def setUp(self):
         self.header = HEADER.read_text()
         folder = TOP / "crates/store_c/src"
-        sources = [*sorted(folder.glob("*.rt")), TOP / "crates/layered_index/src/row.rt"]
+        below = ("layered_index/src/row.rt", "layered_index/src/lower_layers.rt", "store_reader/src/store_head.rt")
+        sources = [*sorted(folder.glob("*.rt")), *(TOP / "crates" / path for path in below)]
         self.source = "\n".join(path.read_text() for path in sources)
         self.errors = (TOP / "crates/store_base/src/error.rt").read_text()
 

@@ -32,6 +32,11 @@ class ByGcc(CompilerCase):
         self.succeed(program, HEX)
 
 
+class ManyBlocks(CompilerCase):
+    def test_documents_of_ten_million_blocks_are_got_by_each_layer(self):
+        self.succeed(self.compiled_by(self.compiler, "outlines.c", in_cpp=False), HEX, "10000000")
+
+
 class ByClang(ByGcc):
     compiler = COMPILERS[1]
 

@@ -16,6 +16,7 @@ TYPES = NUMBERS | {
     "zevk_block": "Block",
     "zevk_block_place": "BlockPlace",
     "zevk_fault": "Fault",
+    "zevk_head": "Head",
     "zevk_place": "Place",
     "zevk_writer": "Writer",
 }

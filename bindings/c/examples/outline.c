@@ -7,16 +7,15 @@
 
 #include "zevkhadun.h"
 
-/* An outline: rows of one layer, and how many layers lie below. */
+/* An outline: rows of one layer of the index, and numbers of the file. */
 typedef struct outline {
     zevk_block rows[64];
-    size_t count;
-    size_t height;
+    zevk_head head;
 } outline;
 
 static uint32_t print_document(const uint8_t *file, size_t len, const outline *by, uint32_t id) {
     zevk_place place;
-    uint32_t error = zevk_get_by(file, len, by->rows, by->count, by->height, id, &place);
+    uint32_t error = zevk_get_by(file, len, by->rows, by->head.rows, &by->head, id, &place);
     if (error == ZEVK_DONE) fwrite(file + place.start, 1, place.len, stdout);
     return error;
 }
@@ -28,7 +27,7 @@ int main(int argc, char **argv) {
     if (len == sizeof file || ferror(stdin)) {
         return 2;
     }
-    uint32_t error = zevk_outline(file, len, made.rows, 64, &made.count, &made.height);
+    uint32_t error = zevk_outline(file, len, made.rows, 64, &made.head);
     for (int at = 1; at < argc && error == ZEVK_DONE; at++) {
         error = print_document(file, len, &made, (uint32_t)strtoul(argv[at], NULL, 10));
     }

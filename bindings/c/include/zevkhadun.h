@@ -122,8 +122,9 @@ typedef struct zevk_block {
 /* Checks the footer and the whole index, fills a row of the table for each block, and sets `count` to the number of
  * blocks and `num_docs` to the number of documents. Other calls take the first `count` rows. You keep the table.
  *
- * Errors: the file errors; NO_MEMORY; NO_ROOM, if the table has fewer than `count` rows: the rows that it has are
- * filled and both numbers set, so a first call with 0 rows finds how many are needed. */
+ * Errors: the file errors, where BAD_INDEX may leave anything in the table; NO_ROOM, if the table has fewer than
+ * `count` rows: the rows that it has are filled and both numbers set, so a first call with 0 rows finds how many are
+ * needed. It takes no other memory. */
 uint32_t zevk_open(const uint8_t *file, size_t file_len, zevk_block *table, size_t table_len, size_t *count,
                    uint32_t *num_docs);
 
@@ -148,22 +149,32 @@ uint32_t zevk_locate_run(const uint8_t *file, size_t file_len, const zevk_block 
  * layer below. So it takes as much memory as there is, and the more it has, the less time a get takes. A table is the
  * outline with the height 0. */
 
+/* The numbers of an outline. By them a get reads neither the footer nor where the layers of the index end. */
+typedef struct zevk_head {
+    size_t data_len;  /* the offset in the file of the index, which begins after the blocks */
+    size_t rows;      /* how many rows were filled */
+    size_t height;    /* how many layers lie below that of the rows */
+    size_t place;     /* how many bytes the layers above these take */
+    size_t ends;      /* the offset in the index of the numbers that say where these end */
+    size_t texts;     /* the offset in the index of these layers */
+    uint8_t period;   /* how many entries a full run of the index has */
+} zevk_head;
+
 /* Fills the front of `rows` with those of the lowest layer of the index that has no more than `rows_len`, and sets
- * `count` to how many these are and `height` to how many layers lie below that layer. If each layer has more, `count`
- * is 0 and `height` the number of layers. It takes the time of reading these rows, and leaves the others. zevk_get_by
- * takes the first `count` rows and the height.
+ * `head`. If each layer has more, head->rows is 0 and head->height the number of layers. It takes the time of reading
+ * these rows, and leaves the others. zevk_get_by takes the first head->rows of them, and the head.
  *
  * Errors: the file errors. */
-uint32_t zevk_outline(const uint8_t *file, size_t file_len, zevk_block *rows, size_t rows_len, size_t *count,
-                      size_t *height);
+uint32_t zevk_outline(const uint8_t *file, size_t file_len, zevk_block *rows, size_t rows_len, zevk_head *head);
 
-/* Sets `place` to where a document lies in the file, as zevk_get does, by the rows and the height of the outline of
- * these bytes. It takes no memory. With other rows the call is safe: a place lies within the bytes, but it may be that
- * of anything.
+/* Sets `place` to where a document lies in the file, as zevk_get does, by the outline of these bytes. It takes no
+ * memory. With other rows or another head the call is safe: a place lies within the bytes, but it may be that of
+ * anything.
  *
- * Errors: those of zevk_get; BAD_INDEX also if the rows or the height are not those of the file. */
-uint32_t zevk_get_by(const uint8_t *file, size_t file_len, const zevk_block *rows, size_t rows_len, size_t height,
-                     uint32_t doc_id, zevk_place *place);
+ * Errors: NO_DOCUMENT, with the outline of the file if and only if it has no document of this number;
+ * DAMAGED_DOCUMENT; BAD_INDEX. */
+uint32_t zevk_get_by(const uint8_t *file, size_t file_len, const zevk_block *rows, size_t rows_len,
+                     const zevk_head *head, uint32_t doc_id, zevk_place *place);
 
 /* ---- reading a file that lies elsewhere
  *
@@ -221,7 +232,7 @@ typedef struct zevk_fault {
  * its documents lie. After DONE every other call finds every document.
  *
  * Errors: the file errors, where BAD_INDEX sets the byte and the layer of `fault`; DAMAGED_DOCUMENT, which sets the
- * number of the first document that is damaged; NO_MEMORY. The other numbers of a fault that is set are 0. */
+ * number of the first document that is damaged. The other numbers of a fault that is set are 0. It takes no memory. */
 uint32_t zevk_check(const uint8_t *file, size_t file_len, zevk_fault *fault);
 
 /* ---- writing
@@ -275,9 +286,9 @@ uint32_t zevk_writer_end_block(zevk_writer *writer, uint32_t *starts, size_t sta
 /* Adds all documents of the store whose file these bytes are, with its blocks as they are, damaged ones too. The caller
  * writes the first `len` bytes of that file to its own. `count` is set to the number of blocks of the store.
  *
- * Errors: the file errors; NO_MEMORY; OLD_VERSION for a store of version 1; OPEN_BLOCK; OTHER_WRITER, which may also
- * come in place of the next two; TOO_MANY_DOCS; NO_ROOM if the table has no room for `count` more rows: `count` is
- * set, and rows after those that count may be overwritten. */
+ * Errors: the file errors; OLD_VERSION for a store of version 1; OPEN_BLOCK; OTHER_WRITER, which may also come in
+ * place of the next two; TOO_MANY_DOCS; NO_ROOM if the table has no room for `count` more rows, where `count` is set.
+ * It takes no memory. */
 uint32_t zevk_writer_stack(zevk_writer *writer, zevk_block *table, size_t table_len, const uint8_t *file,
                            size_t file_len, size_t *count, size_t *len);
 
@@ -297,9 +308,9 @@ uint32_t zevk_writer_close(const zevk_writer *writer, const zevk_block *table, s
  *   that are there, and they take less than 2^63 bytes.
  * - Memory that a call writes to overlaps nothing else that the call is given. What a call reads doesn't change during
  *   the call. A mapped file that another process cuts ends the program with SIGBUS.
- * - malloc, realloc and free belong to one allocator, whose blocks are aligned for any type. zevk_open, zevk_check,
- *   zevk_writer_stack and zevk_writer_close take memory and free it before they return: don't call them in a signal
- *   handler, or in the child after a fork of a process with threads.
+ * - malloc, realloc and free belong to one allocator, whose blocks are aligned for any type. zevk_writer_close takes
+ *   memory and frees it before it returns: don't call it in a signal handler, or in the child after a fork of a process
+ *   with threads.
  * - Any number of threads may read one file at once, also with one table, while none writes to either. One thread at a
  *   time uses a writer. */
 

@@ -72,10 +72,10 @@ typedef struct zevk_document {
 /* A flag of zevk_file_open: the whole index is checked, and the store has a table of all its blocks. Opening then takes
  * longer the more blocks there are, and a get takes less time.
  *
- * Without it, opening takes the same short time for each size of file: it checks the footer and what it reads, and
- * makes an outline of at most 16 KiB. A get reads and checks the part of the index that it needs. In a damaged file it
- * may give the bytes of something else, which lie in the file all the same. Of a store with few blocks the outline is
- * the table, and gets take as little time. */
+ * Without it, opening takes the same short time for each size of file: it checks the footer and the top layer of the
+ * index. A get reads and checks the part of the index that it needs; one of the first makes an outline of at most
+ * 16 KiB for those after it. In a damaged file a get may give the bytes of something else, which lie in the file all
+ * the same. Of a store with few blocks the outline is the table, and gets take as little time. */
 #define ZEVK_FILE_CHECKED 8u
 
 /* A flag of zevk_file_open: the gets will be far apart, in a file of which little is in memory. The system then reads

@@ -2,23 +2,28 @@
 #ifndef ZEVK_BY_PATH_H
 #define ZEVK_BY_PATH_H
 
+#include <stdatomic.h>
+
 #include "zevkhadun_file.h"
 
 struct zevk_file {
     const uint8_t *bytes;  /* NULL if the file is empty */
     size_t len;
-    zevk_block *rows;      /* never NULL in an open file */
-    size_t count;          /* of the rows */
-    size_t height;         /* how many layers of the index lie below that of the rows; 0 for a table of all blocks */
+    zevk_block *rows;      /* of a table of all blocks, or of the outline once it is made; then never NULL */
+    zevk_head head;        /* the numbers of these rows */
     size_t blocks;         /* with ZEVK_FILE_CHECKED, else 0 */
     uint32_t num_docs;
     size_t page;           /* the bytes of a page of memory with ZEVK_FILE_SCATTERED, else 0 */
     int is_by_table;       /* a get looks at the table, and does nothing before */
+    atomic_uint gets;      /* how many gets there were before the outline was made, or ZEVK_HAS_ROWS */
 };
 
-/* zevk_locate without the look for arrays of length 0 (null_arrays.c): an open file has bytes, and its table a row. */
+/* zevk_locate and zevk_get_by without the look for arrays of length 0 (null_arrays.c): an open file has bytes, and rows
+ * have one more than their number. */
 uint32_t zevk_proved_locate(const uint8_t *file, size_t file_len, const zevk_block *table, size_t table_len,
                             uint32_t doc_id, zevk_place *place);
+uint32_t zevk_proved_get_by(const uint8_t *file, size_t file_len, const zevk_block *rows, size_t rows_len,
+                            const zevk_head *head, uint32_t doc_id, zevk_place *place);
 
 /* Returns an error, and sets errno again to one of the system: calls that clean up may have changed it. */
 int zevk_returned(int error);

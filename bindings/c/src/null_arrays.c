@@ -22,10 +22,9 @@ uint32_t zevk_proved_locate(const uint8_t *file, size_t file_len, const zevk_blo
                             uint32_t doc_id, zevk_place *place);
 uint32_t zevk_proved_locate_run(const uint8_t *file, size_t file_len, const zevk_block *table, size_t table_len,
                                 uint32_t first, zevk_place *places, size_t places_len, size_t *count);
-uint32_t zevk_proved_outline(const uint8_t *file, size_t file_len, zevk_block *rows, size_t rows_len, size_t *count,
-                             size_t *height);
+uint32_t zevk_proved_outline(const uint8_t *file, size_t file_len, zevk_block *rows, size_t rows_len, zevk_head *head);
 uint32_t zevk_proved_get_by(const uint8_t *file, size_t file_len, const zevk_block *rows, size_t rows_len,
-                            size_t height, uint32_t doc_id, zevk_place *place);
+                            const zevk_head *head, uint32_t doc_id, zevk_place *place);
 uint32_t zevk_proved_writer_put(zevk_writer *writer, uint32_t *starts, size_t starts_len, zevk_block *table,
                                 size_t table_len, size_t len, size_t *count);
 uint32_t zevk_proved_writer_end_block(zevk_writer *writer, uint32_t *starts, size_t starts_len, zevk_block *table,
@@ -91,14 +90,13 @@ uint32_t zevk_locate_run(const uint8_t *file, size_t file_len, const zevk_block 
                                   address(places, places_len), places_len, count);
 }
 
-uint32_t zevk_outline(const uint8_t *file, size_t file_len, zevk_block *rows, size_t rows_len, size_t *count,
-                      size_t *height) {
-    return zevk_proved_outline(address(file, file_len), file_len, address(rows, rows_len), rows_len, count, height);
+uint32_t zevk_outline(const uint8_t *file, size_t file_len, zevk_block *rows, size_t rows_len, zevk_head *head) {
+    return zevk_proved_outline(address(file, file_len), file_len, address(rows, rows_len), rows_len, head);
 }
 
-uint32_t zevk_get_by(const uint8_t *file, size_t file_len, const zevk_block *rows, size_t rows_len, size_t height,
-                     uint32_t doc_id, zevk_place *place) {
-    return zevk_proved_get_by(address(file, file_len), file_len, address(rows, rows_len), rows_len, height, doc_id,
+uint32_t zevk_get_by(const uint8_t *file, size_t file_len, const zevk_block *rows, size_t rows_len,
+                     const zevk_head *head, uint32_t doc_id, zevk_place *place) {
+    return zevk_proved_get_by(address(file, file_len), file_len, address(rows, rows_len), rows_len, head, doc_id,
                               place);
 }
 

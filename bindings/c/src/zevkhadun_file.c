@@ -2,6 +2,7 @@
 #define _POSIX_C_SOURCE 200809L
 #include <errno.h>
 #include <fcntl.h>
+#include <limits.h>
 #include <stdlib.h>
 #include <string.h>
 #include <sys/mman.h>
@@ -56,8 +57,11 @@ int zevk_returned(int error) {
 
 /* ---- reading */
 
-/* An outline of 16 KiB. */
-enum { FOOTER_LEN = 28, OUTLINE_ROWS = 1024 };
+/* An outline has 16 KiB at most. To make it takes the time of some 30 gets without it, so it is made at the 32nd. */
+enum { FOOTER_LEN = 28, OUTLINE_ROWS = 1024, OUTLINE_AT = 32 };
+
+/* What a file counts once its rows are there. */
+#define ZEVK_HAS_ROWS UINT_MAX
 
 /* Maps a plain file. An empty one is not mapped. */
 static int map_file(zevk_file *file, int descriptor) {
@@ -94,7 +98,7 @@ static size_t index_start(const zevk_file *file) {
 
 /* Gives the rows as much memory as they need, and that of one more: so they are never NULL. */
 static int fit_rows(zevk_file *file) {
-    zevk_block *rows = realloc(file->rows, (file->count + 1) * sizeof *rows);
+    zevk_block *rows = realloc(file->rows, (file->head.rows + 1) * sizeof *rows);
     if (rows == NULL) {
         return ZEVK_NO_MEMORY;
     }
@@ -112,37 +116,42 @@ static uint32_t open_table(zevk_file *file, size_t rows) {
 }
 
 /* Opens the store and makes its table. A block takes at least two bytes of the index, so a table of half the length of
- * the index has room, and the index is decoded once. Where there is no memory for that, also beside what zevk_open
- * takes itself, the blocks are counted first. */
+ * the index has room, and the index is decoded once. Without the memory for that the blocks are counted first. */
 static int fill_table(zevk_file *file) {
     size_t end = file->len < FOOTER_LEN ? 0 : file->len - FOOTER_LEN;
     size_t start = index_start(file);
     uint32_t error = open_table(file, start < end ? (end - start) / 2 : 0);
-    if (error == ZEVK_NO_MEMORY) {
-        error = open_table(file, 0);
-    }
     if (error == ZEVK_NO_ROOM) {
         error = open_table(file, file->blocks);
     }
     if (error != ZEVK_DONE) {
         return error == ZEVK_NO_ROOM ? ZEVK_NO_MEMORY : (int)error;
     }
-    file->count = file->blocks;
+    file->head.rows = file->blocks;
+    file->is_by_table = 1;
+    atomic_init(&file->gets, ZEVK_HAS_ROWS);
     return fit_rows(file);
 }
 
-/* Opens the store by its footer and the top layers of its index, and makes its outline. */
-static int fill_outline(zevk_file *file) {
-    uint32_t error = zevk_num_docs(file->bytes, file->len, &file->num_docs);
-    if (error != ZEVK_DONE) {
-        return (int)error;
-    }
+/* Makes the outline of an open file. Without the memory for it, or where the index is damaged, gets go on without. */
+static void make_outline(zevk_file *file) {
     file->rows = malloc(OUTLINE_ROWS * sizeof *file->rows);
-    if (file->rows == NULL) {
-        return ZEVK_NO_MEMORY;
+    if (file->rows != NULL
+        && zevk_outline(file->bytes, file->len, file->rows, OUTLINE_ROWS, &file->head) == ZEVK_DONE
+        && fit_rows(file) == 0) {
+        atomic_store_explicit(&file->gets, ZEVK_HAS_ROWS, memory_order_release);
     }
-    error = zevk_outline(file->bytes, file->len, file->rows, OUTLINE_ROWS, &file->count, &file->height);
-    return error != ZEVK_DONE ? (int)error : fit_rows(file);
+}
+
+/* Whether the file has rows. One of the gets makes the outline, while those of other threads go on without. */
+static int has_rows(const zevk_file *file) {
+    zevk_file *own = (zevk_file *)file;
+    unsigned gets = atomic_load_explicit(&own->gets, memory_order_acquire);
+    if (gets < OUTLINE_AT && atomic_compare_exchange_strong(&own->gets, &gets, gets + 1) && gets + 1 == OUTLINE_AT) {
+        make_outline(own);
+        gets = atomic_load_explicit(&own->gets, memory_order_acquire);
+    }
+    return gets == ZEVK_HAS_ROWS;
 }
 
 /* Tells the system that reads of the file will be far apart. The check before it has read the index in order. */
@@ -162,7 +171,8 @@ int zevk_open_descriptor(int descriptor, unsigned flags, zevk_file **opened) {
     }
     int error = map_file(file, descriptor);
     if (error == 0) {
-        error = (flags & ZEVK_FILE_CHECKED) != 0 ? fill_table(file) : fill_outline(file);
+        error = (flags & ZEVK_FILE_CHECKED) != 0 ? fill_table(file)
+                                                 : (int)zevk_num_docs(file->bytes, file->len, &file->num_docs);
     }
     if (error == 0 && (flags & ZEVK_FILE_SCATTERED) != 0) {
         error = scatter(file);
@@ -171,7 +181,7 @@ int zevk_open_descriptor(int descriptor, unsigned flags, zevk_file **opened) {
         zevk_file_close(file);
         return error;
     }
-    file->is_by_table = file->height == 0 && file->page == 0;
+    file->is_by_table = file->is_by_table && file->page == 0;
     *opened = file;
     return 0;
 }
@@ -250,15 +260,18 @@ __attribute__((noinline)) static uint32_t place_of(const zevk_file *file, uint32
     if (file->page != 0) {
         ask_for_both(file, doc_id);
     }
-    return file->height == 0
-        ? zevk_proved_locate(file->bytes, file->len, file->rows, file->count, doc_id, place)
-        : zevk_get_by(file->bytes, file->len, file->rows, file->count, file->height, doc_id, place);
+    if (!has_rows(file)) {
+        return zevk_get(file->bytes, file->len, doc_id, place);
+    }
+    return file->head.height == 0
+        ? zevk_proved_locate(file->bytes, file->len, file->rows, file->head.rows, doc_id, place)
+        : zevk_proved_get_by(file->bytes, file->len, file->rows, file->head.rows, &file->head, doc_id, place);
 }
 
 int zevk_file_get(const zevk_file *file, uint32_t doc_id, zevk_document *document) {
     zevk_place place;
     uint32_t error = file->is_by_table
-        ? zevk_proved_locate(file->bytes, file->len, file->rows, file->count, doc_id, &place)
+        ? zevk_proved_locate(file->bytes, file->len, file->rows, file->head.rows, doc_id, &place)
         : place_of(file, doc_id, &place);
     if (error == ZEVK_DONE) {
         *document = (zevk_document){file->bytes + place.start, place.len};
@@ -274,8 +287,8 @@ void zevk_cursor_begin(zevk_cursor *cursor, const zevk_file *file, uint32_t firs
 static int find_places(zevk_cursor *cursor) {
     const zevk_file *file = cursor->file;
     size_t count = 0;
-    uint32_t error = file->height == 0
-        ? zevk_locate_run(file->bytes, file->len, file->rows, file->count, cursor->next, cursor->places,
+    uint32_t error = has_rows(file) && file->head.height == 0
+        ? zevk_locate_run(file->bytes, file->len, file->rows, file->head.rows, cursor->next, cursor->places,
                           ZEVK_CURSOR_RUN, &count)
         : zevk_get_run(file->bytes, file->len, cursor->next, cursor->places, ZEVK_CURSOR_RUN, &count);
     cursor->at = 0;

@@ -56,13 +56,13 @@ CHECKED(uint32_t, locate_run,
         (file, file_len, table, table_len, first, places, places_len, count), BYTES(file); ROWS(table); PLACES(places))
 
 CHECKED(uint32_t, outline,
-        (const uint8_t *file, size_t file_len, zevk_block *rows, size_t rows_len, size_t *count, size_t *height),
-        (file, file_len, rows, rows_len, count, height), BYTES(file); ROWS(rows))
+        (const uint8_t *file, size_t file_len, zevk_block *rows, size_t rows_len, zevk_head *head),
+        (file, file_len, rows, rows_len, head), BYTES(file); ROWS(rows))
 
 CHECKED(uint32_t, get_by,
-        (const uint8_t *file, size_t file_len, const zevk_block *rows, size_t rows_len, size_t height, uint32_t doc_id,
-         zevk_place *place),
-        (file, file_len, rows, rows_len, height, doc_id, place), BYTES(file); ROWS(rows))
+        (const uint8_t *file, size_t file_len, const zevk_block *rows, size_t rows_len, const zevk_head *head,
+         uint32_t doc_id, zevk_place *place),
+        (file, file_len, rows, rows_len, head, doc_id, place), BYTES(file); ROWS(rows))
 
 CHECKED(uint32_t, writer_put,
         (zevk_writer *writer, uint32_t *starts, size_t starts_len, zevk_block *table, size_t table_len, size_t len,

@@ -9,7 +9,7 @@
 /* How many places a run has, and how many documents at each end of a store are compared. */
 enum { RUN = 5, ENDS = 400 };
 
-/* The bytes of a file, and what zevk_open gives of them. */
+/* The bytes of a file, what zevk_open gives of them, and the head of an outline with the same rows. */
 typedef struct opened {
     const uint8_t *file;
     size_t len;
@@ -17,16 +17,32 @@ typedef struct opened {
     size_t count;
     uint32_t num_docs;
     uint32_t error;
+    zevk_head head;
 } opened;
+
+/* The rows of a table are those of an outline with room for all. */
+static inline void is_outlined(opened *store) {
+    size_t room = store->count * sizeof *store->table;
+    zevk_block *rows = (zevk_block *)malloc(room + 1);
+    WANT(rows != NULL && zevk_outline(store->file, store->len, rows, store->count, &store->head) == ZEVK_DONE);
+    WANT(store->head.rows == store->count && store->head.height == 0 && memcmp(rows, store->table, room) == 0);
+    free(rows);
+}
 
 /* Opens a file. The caller frees the table. */
 static inline opened opened_file(const uint8_t *file, size_t len) {
-    opened store = {file, len, NULL, 0, 0, ZEVK_DONE};
+    opened store;
+    memset(&store, 0, sizeof store);
+    store.file = file;
+    store.len = len;
     store.error = zevk_open(file, len, NULL, 0, &store.count, &store.num_docs);
     store.table = (zevk_block *)malloc((store.count + 1) * sizeof *store.table);
     WANT(store.table != NULL);
     if (store.error == ZEVK_NO_ROOM) {
         store.error = zevk_open(file, len, store.table, store.count, &store.count, &store.num_docs);
+    }
+    if (store.error == ZEVK_DONE) {
+        is_outlined(&store);
     }
     return store;
 }
@@ -38,7 +54,7 @@ static inline void is_the_same(const opened *store, uint32_t id) {
     uint32_t error = zevk_get(store->file, store->len, id, &place);
     WANT(error == zevk_locate(store->file, store->len, store->table, store->count, id, &other));
     WANT(place.start == other.start && place.len == other.len);
-    WANT(error == zevk_get_by(store->file, store->len, store->table, store->count, 0, id, &other));
+    WANT(error == zevk_get_by(store->file, store->len, store->table, store->count, &store->head, id, &other));
     WANT(place.start == other.start && place.len == other.len);
     memset(run, 7, sizeof run);
     memset(others, 7, sizeof others);

@@ -1,5 +1,5 @@
-/* Each allocation of an opening, a stacking and a closing is refused in turn: it answers that there is no memory,
- * changes nothing, and leaves no block allocated. Nothing else allocates.
+/* Each allocation of a closing is refused in turn: it answers that there is no memory, changes nothing, and leaves no
+ * block allocated. Nothing else allocates.
  *
  * usage: memory HEX. It is linked with --wrap for malloc, realloc and free.
  */
@@ -43,32 +43,29 @@ void __wrap_free(void *block) {
     __real_free(block);
 }
 
-/* Opens a file with this many allocations. */
-static uint32_t open_with(const uint8_t *file, size_t len, long allocations) {
+/* Opens, checks and reads a file without an allocation. */
+static void reads_without_memory(const uint8_t *file, size_t len) {
     zevk_block table[BLOCKS];
+    zevk_head head;
+    zevk_fault fault;
     zevk_place place, run[DOCUMENTS];
     size_t count = 77, found = 0;
     uint32_t num_docs = 78;
-    long before = blocks;
-    granted = allocations;
-    uint32_t answer = zevk_open(file, len, table, BLOCKS, &count, &num_docs);
     granted = 0;
-    WANT(blocks == before);
-    if (answer == ZEVK_DONE) {
-        WANT(zevk_locate(file, len, table, count, 3, &place) == ZEVK_DONE && is_document(file, len, place, 3));
-        WANT(zevk_locate_run(file, len, table, count, 0, run, DOCUMENTS, &found) == ZEVK_DONE);
-        WANT(zevk_get(file, len, 3, &place) == ZEVK_DONE && is_document(file, len, place, 3));
-        WANT(zevk_get_run(file, len, 0, run, DOCUMENTS, &found) == ZEVK_DONE && found == DOCUMENTS);
-        WANT(zevk_num_docs(file, len, &num_docs) == ZEVK_DONE && num_docs == DOCUMENTS);
-    } else {
-        WANT(count == 77 && num_docs == 78);
-    }
+    WANT(zevk_check(file, len, &fault) == ZEVK_DONE);
+    WANT(zevk_open(file, len, table, BLOCKS, &count, &num_docs) == ZEVK_DONE && num_docs == DOCUMENTS);
+    WANT(zevk_locate(file, len, table, count, 3, &place) == ZEVK_DONE && is_document(file, len, place, 3));
+    WANT(zevk_locate_run(file, len, table, count, 0, run, DOCUMENTS, &found) == ZEVK_DONE);
+    WANT(zevk_get(file, len, 3, &place) == ZEVK_DONE && is_document(file, len, place, 3));
+    WANT(zevk_get_run(file, len, 0, run, DOCUMENTS, &found) == ZEVK_DONE && found == DOCUMENTS);
+    WANT(zevk_num_docs(file, len, &num_docs) == ZEVK_DONE && num_docs == DOCUMENTS);
+    WANT(zevk_outline(file, len, table, 1, &head) == ZEVK_DONE);
+    WANT(zevk_get_by(file, len, table, head.rows, &head, 3, &place) == ZEVK_DONE && is_document(file, len, place, 3));
     granted = -1;
-    return answer;
 }
 
-/* Stacks a file and closes, with this many allocations for each. */
-static uint32_t write_with(const uint8_t *file, size_t len, long allocations) {
+/* Stacks a file without an allocation, and closes with this many. */
+static uint32_t close_with(const uint8_t *file, size_t len, long allocations) {
     zevk_block table[BLOCKS + 1];
     uint32_t starts[4];
     uint8_t end[256];
@@ -79,34 +76,26 @@ static uint32_t write_with(const uint8_t *file, size_t len, long allocations) {
     zevk_writer_begin(&writer, 0);
     WANT(zevk_writer_put(&writer, starts, 4, table, BLOCKS + 1, 5, &count) == ZEVK_DONE && count == 2);
     WANT(zevk_writer_end_block(&writer, starts, 4, table, BLOCKS + 1, &count) == ZEVK_DONE && count == 0);
+    WANT(zevk_writer_stack(&writer, table, BLOCKS + 1, file, len, &count, &data_len) == ZEVK_DONE && count == BLOCKS);
     granted = allocations;
-    uint32_t answer = zevk_writer_stack(&writer, table, BLOCKS + 1, file, len, &count, &data_len);
-    WANT(blocks == before);
-    WANT(answer == ZEVK_DONE || (writer.blocks == 1 && count == 0 && data_len == 78));
-    if (answer == ZEVK_DONE) {
-        granted = allocations;
-        answer = zevk_writer_close(&writer, table, BLOCKS + 1, 8, end, sizeof end, &end_len);
-        WANT(blocks == before);
-        WANT(answer == ZEVK_DONE || end_len == 79);
-    }
+    uint32_t answer = zevk_writer_close(&writer, table, BLOCKS + 1, 8, end, sizeof end, &end_len);
     granted = -1;
+    WANT(blocks == before);
+    WANT(answer == ZEVK_DONE || end_len == 79);
     return answer;
 }
 
 int main(int argc, char **argv) {
     size_t len = 0;
-    long opening = 0, writing = 0;
+    long closing = 0;
     uint8_t *file = loaded(argc, argv, &len);
-    while (open_with(file, len, opening) != ZEVK_DONE) {
-        WANT(open_with(file, len, opening) == ZEVK_NO_MEMORY);
-        opening++;
+    reads_without_memory(file, len);
+    while (close_with(file, len, closing) != ZEVK_DONE) {
+        WANT(close_with(file, len, closing) == ZEVK_NO_MEMORY);
+        closing++;
     }
-    while (write_with(file, len, writing) != ZEVK_DONE) {
-        WANT(write_with(file, len, writing) == ZEVK_NO_MEMORY);
-        writing++;
-    }
-    WANT(opening > 1 && writing > opening);
-    printf("%ld allocations of an opening, %ld of a closing\n", opening, writing);
+    WANT(closing > 0);
+    printf("%ld allocations of a closing\n", closing);
     free(file);
     return 0;
 }

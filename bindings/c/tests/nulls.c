@@ -34,13 +34,13 @@ static void getting(const uint8_t *file, size_t len) {
 static void outlining(const uint8_t *file, size_t len) {
     zevk_block row = {1, 2, 3};
     zevk_place place = {1, 2};
-    size_t count = 77, height = 78;
-    WANT(zevk_outline(NULL, 0, NULL, 0, &count, &height) == ZEVK_SHORT_FILE && count == 77 && height == 78);
-    WANT(zevk_outline(NULL, 0, &row, 1, &count, &height) == ZEVK_SHORT_FILE && row.end_doc == 1);
-    WANT(zevk_get_by(NULL, 0, NULL, 0, 0, 0, &place) == ZEVK_SHORT_FILE);
-    WANT(zevk_get_by(NULL, 0, &row, 1, 0, 0, &place) == ZEVK_SHORT_FILE && place.start == 1 && place.len == 2);
-    WANT(zevk_outline(file, len, NULL, 0, &count, &height) == ZEVK_DONE && count == 0 && height == LAYERS);
-    WANT(zevk_get_by(file, len, NULL, 0, height, 1, &place) == ZEVK_DONE && is_document(file, len, place, 1));
+    zevk_head head = {0, 77, 78, 0, 0, 0, 0};
+    WANT(zevk_outline(NULL, 0, NULL, 0, &head) == ZEVK_SHORT_FILE && head.rows == 77 && head.height == 78);
+    WANT(zevk_outline(NULL, 0, &row, 1, &head) == ZEVK_SHORT_FILE && row.end_doc == 1);
+    WANT(zevk_get_by(NULL, 0, NULL, 0, &head, 0, &place) == ZEVK_BAD_INDEX);
+    WANT(zevk_get_by(NULL, 0, &row, 1, &head, 0, &place) == ZEVK_BAD_INDEX && place.start == 1 && place.len == 2);
+    WANT(zevk_outline(file, len, NULL, 0, &head) == ZEVK_DONE && head.rows == 0 && head.height == LAYERS);
+    WANT(zevk_get_by(file, len, NULL, 0, &head, 1, &place) == ZEVK_DONE && is_document(file, len, place, 1));
 }
 
 static void ranges(size_t len) {

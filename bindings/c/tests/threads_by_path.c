@@ -1,7 +1,9 @@
 /* Eight threads that share two open files, one with a table and one without: each gets all documents, moves cursors of
  * its own, asks for facts, opens and closes the file for itself, and stacks the shared files into a store of its own.
  *
- * usage: threads_by_path FOLDER
+ * usage: threads_by_path FOLDER [made]
+ *
+ * With the second word the outline of the file without a table is made before the threads begin.
  */
 #ifndef _GNU_SOURCE
 #define _GNU_SOURCE
@@ -95,11 +97,14 @@ int main(int argc, char **argv) {
     char path[4096];
     zevk_file_writer *writer = NULL;
     zevk_file *checked = NULL, *unchecked = NULL;
-    WANT(argc == 2 && snprintf(path, sizeof path, "%s/store", argv[1]) < (int)sizeof path);
+    WANT((argc == 2 || argc == 3) && snprintf(path, sizeof path, "%s/store", argv[1]) < (int)sizeof path);
     WANT(zevk_file_create(path, 0, 300, 8, &writer) == 0);
     write_documents(writer);
     WANT(zevk_file_publish(writer) == 0);
     WANT(zevk_file_open(path, ZEVK_FILE_CHECKED, &checked) == 0 && zevk_file_open(path, 0, &unchecked) == 0);
+    if (argc == 3) {
+        has_documents(unchecked, 0);
+    }
     for (int i = 0; i < THREADS; i++) {
         shared[i].folder = argv[1];
         shared[i].path = path;

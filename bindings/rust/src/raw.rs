@@ -9,6 +9,20 @@ pub(crate) struct Block {
     end_byte: usize,
 }
 
+/// The numbers of an outline, which only the library reads, but for how many rows there are and how many layers lie
+/// below.
+#[repr(C)]
+#[derive(Clone, Copy, Default)]
+pub(crate) struct Head {
+    data_len: usize,
+    pub(crate) rows: usize,
+    pub(crate) height: usize,
+    place: usize,
+    ends: usize,
+    texts: usize,
+    period: u8,
+}
+
 /// Where a document lies in its file.
 #[repr(C)]
 #[derive(Clone, Copy, Default)]
@@ -96,15 +110,14 @@ extern "C" {
         file_len: usize,
         rows: *mut Block,
         rows_len: usize,
-        count: *mut usize,
-        height: *mut usize,
+        head: *mut Head,
     ) -> u32;
     pub(crate) fn zevk_get_by(
         file: *const u8,
         file_len: usize,
         rows: *const Block,
         rows_len: usize,
-        height: usize,
+        head: *const Head,
         doc_id: u32,
         place: *mut Place,
     ) -> u32;

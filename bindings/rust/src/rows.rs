@@ -2,7 +2,7 @@
 
 use crate::error::{check, Refusal};
 use crate::facts::Footer;
-use crate::raw::{self, Block, Place};
+use crate::raw::{self, Block, Head, Place};
 use crate::unopened;
 
 /// How many rows an outline has at most. They take 16 KiB.
@@ -12,8 +12,8 @@ const OUTLINE: usize = 1024;
 #[derive(Clone, Default)]
 pub(crate) struct Rows {
     rows: Vec<Block>,
-    /// How many layers lie below the one of the rows. At 0 there is a row for each block.
-    height: usize,
+    /// The numbers of an outline. Its height is 0 where there is a row for each block.
+    head: Head,
     documents: u32,
 }
 
@@ -59,25 +59,24 @@ impl Rows {
 
     /// The rows of the lowest layer that has few of them. Only the footer and what is read of the index are checked.
     pub(crate) fn outline(file: &[u8]) -> Result<Rows, Refusal> {
-        let (mut rows, mut count, mut height) = (room_for(OUTLINE)?, 0, 0);
-        // SAFETY: the pointer and the length of the file are those of a slice, the rows have this room, and the numbers
-        // are ours.
+        let (mut rows, mut head) = (room_for(OUTLINE)?, Head::default());
+        // SAFETY: the pointer and the length of the file are those of a slice, the rows have this room, and the head is
+        // ours.
         check(unsafe {
             raw::zevk_outline(
                 file.as_ptr(),
                 file.len(),
                 rows.as_mut_ptr(),
                 rows.capacity(),
-                &mut count,
-                &mut height,
+                &mut head,
             )
         })?;
         // SAFETY: the call filled this many rows.
-        unsafe { rows.set_len(count) };
+        unsafe { rows.set_len(head.rows) };
         rows.shrink_to_fit();
         Ok(Rows {
             rows,
-            height,
+            head,
             documents: unopened::num_docs(file)?,
         })
     }
@@ -100,7 +99,7 @@ impl Rows {
         let mut place = Place::default();
         // SAFETY: pointers and lengths are those of slices, and the place is ours.
         check_counted(unsafe {
-            match self.height {
+            match self.head.height {
                 0 => raw::zevk_locate(
                     file.as_ptr(),
                     file.len(),
@@ -109,12 +108,12 @@ impl Rows {
                     doc_id,
                     &mut place,
                 ),
-                height => raw::zevk_get_by(
+                _ => raw::zevk_get_by(
                     file.as_ptr(),
                     file.len(),
                     self.rows.as_ptr(),
                     self.rows.len(),
-                    height,
+                    &self.head,
                     doc_id,
                     &mut place,
                 ),
@@ -134,7 +133,7 @@ impl Rows {
         let mut found = 0;
         // SAFETY: pointers and lengths are those of slices, of which the places are exclusive, and the number is ours.
         let answer = unsafe {
-            match self.height {
+            match self.head.height {
                 0 => raw::zevk_locate_run(
                     file.as_ptr(),
                     file.len(),

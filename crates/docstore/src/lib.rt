@@ -12,9 +12,9 @@ pub mod writer;
 
 pub use close_error::CloseError;
 pub use layered_index::{
-    CHECKPOINT_PERIOD, Checkpoint, CheckpointBlock, CheckpointRange, IndexFault, IndexSlice,
-    LayerCursor, Looks, LowerLayers, Outline, Row, SkipIndex, SkipIndexBuilder, Steps,
-    USUAL_PERIOD, seek_near, seek_over,
+    CHECKPOINT_PERIOD, CheckedIndex, Checkpoint, CheckpointBlock, CheckpointRange, IndexFault,
+    IndexSlice, LayerCursor, LayerMarks, Looks, LowerLayers, Outline, Row, SkipIndex,
+    SkipIndexBuilder, Steps, USUAL_PERIOD, find_fault, seek_near, seek_over,
 };
 pub use run::{StoreCommand, WriteReport, write_store, write_store_with_period};
 pub use store_base::{
@@ -30,9 +30,9 @@ pub use store_format::{
     u32_at, weight_of,
 };
 pub use store_reader::{
-    AliveDocuments, Answer, BlockSlice, BlockSlices, CacheStats, DOCSTORE_CACHE_CAPACITY, DataPart,
-    DocIter, DocWalk, Documents, Items, RawIter, ReadCall, SliceDocuments, StorePart, StoreReader,
-    StoreSlice, StoreTail, StoreView, TailError, Walk, answer_all, any_lacks_memory, check_index,
-    document_at,
+    AliveDocuments, Answer, BlockSlice, BlockSlices, CacheStats, CheckedStore,
+    DOCSTORE_CACHE_CAPACITY, DataPart, DocIter, DocWalk, Documents, Items, RawIter, ReadCall,
+    SliceDocuments, StoreFault, StoreHead, StorePart, StoreReader, StoreSlice, StoreTail,
+    StoreView, TailError, Walk, answer_all, any_lacks_memory, document_at,
 };
 pub use writer::StoreWriter;

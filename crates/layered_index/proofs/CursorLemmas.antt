@@ -30,7 +30,7 @@ number_shorter (b ∷ bytes) x e = elim (leb 128 b) as (λ v. cond v (Some (b - 
           omega (arith, number_shorter bytes found.0 found.1, ap (λ (y : ℕ × List ℕ). length y.1) passed.1)
     ] e
 
-below_shorter : (limit : ℕ) (bytes : List ℕ) (x : ℕ × List ℕ) → number_below limit bytes ≡ Some x → length x.1 < length bytes
+pub below_shorter : (limit : ℕ) (bytes : List ℕ) (x : ℕ × List ℕ) → number_below limit bytes ≡ Some x → length x.1 < length bytes
 below_shorter limit bytes x e =
     let a = bind_some (number_at bytes) (λ m. cond (ltb m.0 limit) (Some m) None) x e in
     let p = pass_some (ltb a.0.0 limit) a.0 x a.2 in

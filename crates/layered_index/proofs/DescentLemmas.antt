@@ -9,17 +9,15 @@ use Rattle.std.specs.List.{AllByRecursion}
 use Rattle.store_base.specs.ReadingLemmas.{some_is}
 use Rattle.layered_index.specs.declared.checkpoint.Checkpoint.{Checkpoint}
 use Rattle.layered_index.specs.Checkpoint.{IsInLine, first_past}
-use Rattle.layered_index.specs.Layers.{groups, layer_text, layer_above, digit_count, layers_from, texts_down}
-use Rattle.layered_index.specs.IndexReading.{IsIndexPart}
-use Rattle.layered_index.specs.Sought.{IsFoundAbove, layers_left, next_layer, IsHeaded, from_pointer, AreOn}
+use Rattle.layered_index.specs.Layers.{groups, layer_text, layer_above, digit_count, layers_from}
+use Rattle.layered_index.specs.Sought.{IsFoundAbove, layers_left, next_layer, from_pointer, AreOn}
 use Rattle.layered_index.proofs.IndexLemmas.{digit_count_zero, no_layers}
 use Rattle.layered_index.proofs.DigitLemmas.{below_digits}
 use Rattle.layered_index.proofs.LayerLemmas.{layer_above_is_in_line, length-groups, length-layer_above}
 use Rattle.layered_index.proofs.PassLemmas.{turn, above_some}
-use Rattle.layered_index.proofs.OpenLemmas.{small_texts, opens_again}
 use Rattle.layered_index.proofs.PointedLemmas.{none_pointed}
 use Rattle.layered_index.proofs.RestOfLayerLemmas.{rest_found}
-use Rattle.layered_index.proofs.IndexHeadLemmas.{is_next, none_left, none_is_some, head_left}
+use Rattle.layered_index.proofs.IndexHeadLemmas.{is_next, none_left, none_is_some}
 
 -- ---- from the top down
 
@@ -73,17 +71,6 @@ abbrev pub LeadsOn : ℕ → ℕ → List Checkpoint → Option Checkpoint → L
 LeadsOn period target bottom found run left = (ts : List (List ℕ)) × (left ≡ Some ts) × Leads period target bottom found run ts
 
 -- ---- the loop of a seek
-
--- before the first layer
-pub leads_first : (period target : ℕ) (bytes : List ℕ) (count : ℕ) (ends texts : List ℕ) (cs : List Checkpoint) (run : List ℕ) → IsHeaded period bytes count ends texts → length bytes < 2 ^ 64
-    → IsIndexPart period bytes cs → LeadsOn period target cs None run (layers_left count 0 ends texts)
-leads_first period target bytes count ends texts cs run head fits is =
-    let ts = texts_down period cs in (
-      ts,
-      head_left bytes count ends texts ts head.counted head.following (opens_again period bytes cs head.two head.few fits is).0,
-      leads_all period target
-          (digit_count period (length cs)) cs run head.two head.few is.0 refl (small_texts period bytes cs fits is),
-    )
 
 -- there is a next layer
 pub leads_next : (period target : ℕ) (bottom : List Checkpoint) (found : Option Checkpoint) (run : List ℕ) (count i place : ℕ) (ends texts : List ℕ) → i < count → next_layer place ends texts ≡ None
@@ -160,9 +147,6 @@ leads_last period target bottom found run count i place ends texts le leads =
     let last : Leads period target bottom found run [] = subst (Leads period target bottom found run) none.0 leads.2 in
     (last.0, last.1, none.1)
 
--- at most a period for each of so many layers
-pub counted_within : (steps old period i count : ℕ) → i ≤ count → steps ≤ old + period * i → steps ≤ old + period * count
-counted_within steps old period i count le h = omega (arith, mul-le period i period count (omega arith) le, h)
-
+-- at most a period for one more layer
 pub one_more_counted : (steps before old period i : ℕ) → steps ≤ before + period → before ≤ old + period * i → steps ≤ old + period * (i + 1)
 one_more_counted steps before old period i h so_far = omega (arith, h, so_far)

@@ -1,16 +1,11 @@
 -- Where a walk over the runs of a layer meets the first that breaks a rule.
-use Rattle.std.proofs.Common.{◌≡◌, ℕ, zero, suc, ◌+◌, ◌-◌, ◌<◌, ◌≤◌, Bool, true, false, cond, List, [], ◌∷◌, length, Option, Some, None, refl, sym, ◌∙◌, ap, arith, get_or, take, drop, length-drop}
-use Rattle.std.proofs.lemmas.List.{take_all}
-use Rattle.std.proofs.Math.Seq.{drop-cons}
+use Rattle.std.proofs.Common.{◌≡◌, ℕ, zero, suc, ◌+◌, ◌-◌, ◌<◌, ◌≤◌, Bool, true, false, cond, List, [], ◌∷◌, length, Option, Some, None, refl, sym, ◌∙◌, ap, arith}
 use Rattle.std.proofs.lemmas.Bool.{cond-true, cond-false}
 use Rattle.std.specs.Prelude.{◌↔◌, IsTrue, IsSome}
 use Rattle.std.specs.Option.{option_map_or}
 use Rattle.layered_index.specs.declared.checkpoint.Checkpoint.{Checkpoint}
 use Rattle.layered_index.specs.declared.layers.Run.{Run}
 use Rattle.layered_index.specs.Checkpoint.{checkpoint}
-use Rattle.layered_index.specs.declared.fault.ReadFault.{ReadFault}
-use Rattle.layered_index.specs.declared.fault.ReadFault.TheVariants.{Malformed, OutOfMemory}
-use Rattle.layered_index.specs.Refusal.{Fails, BreaksOnlyUnless, at_byte}
 use Rattle.layered_index.specs.BlockReading.{run_at}
 use Rattle.layered_index.specs.LayerReading.{may_stand, ArePointers}
 use Rattle.layered_index.specs.Faults.{standing_within, standing_from, PassedTo}
@@ -131,21 +126,8 @@ passed_on (Some old) (Some new) b p standing others place byte e tells good to =
 -- ---- the walk
 
 -- no run can be read here
-pub walk_ends : (period doc byte place : ℕ) (rest : List ℕ) (above : Option (List Checkpoint)) (total : Option ℕ) (P : Type 0) (len : ℕ) (Q : ℕ → Type 0) (fault : ReadFault)
-    → 0 < length rest → place ≤ len → Fails fault (run_at rest) → Counts period doc byte rest total → ((b : ℕ) → PassedTo above (standing_from period doc byte place rest) place b → Q b)
-    → BreaksOnlyUnless (IsSome total × P) (λ b. (b ≤ len) × Q b) (at_byte fault place)
-walk_ends period doc byte place rest above total P len Q OutOfMemory some within e so_far passed = tt
-walk_ends period doc byte place rest above total P len Q Malformed some within e so_far passed =
-    (λ good. walk_none period doc byte rest total some e so_far good.0, (within, passed place (passed_here above _ place (standing_ends period doc byte place rest e))))
-
--- ---- the layers
-
--- the next layer, and those after it
-pub layer_here : (ts : List (List ℕ)) (i : ℕ) (t text : List ℕ) → i < length ts → t ≡ get_or ts i t → text ≡ t → drop i ts ≡ text ∷ drop (i + 1) ts
-layer_here ts i t text lt is same = drop-cons ts i t lt ∙ (λ j. (sym is ∙ sym same) j ∷ drop (one_more i j) ts)
-  where
-    one_more : (i : ℕ) → suc i ≡ i + 1
-    one_more i = omega arith
-
-pub layers_from : (ts : List (List ℕ)) (i : ℕ) → take (length ts - i) (drop i ts) ≡ drop i ts
-layers_from ts i = take_all (length ts - i) (drop i ts) (omega (arith, length-drop i ts))
+pub walk_ends : (period doc byte place : ℕ) (rest : List ℕ) (above : Option (List Checkpoint)) (total : Option ℕ) (P : Type 0) (len : ℕ) (Q : ℕ → Type 0) → 0 < length rest → place ≤ len
+    → run_at rest ≡ None → Counts period doc byte rest total → ((b : ℕ) → PassedTo above (standing_from period doc byte place rest) place b → Q b)
+    → (IsSome total × P → ⊥) × (place ≤ len) × Q place
+walk_ends period doc byte place rest above total P len Q some within e so_far passed =
+    (λ good. walk_none period doc byte rest total some e so_far good.0, within, passed place (passed_here above _ place (standing_ends period doc byte place rest e)))

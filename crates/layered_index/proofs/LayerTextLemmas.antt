@@ -3,7 +3,7 @@ use Rattle.std.proofs.Common.{◌≡◌, ℕ, zero, suc, ◌+◌, ◌-◌, ◌<�
 use Rattle.std.proofs.Common.{refl, sym, ◌∙◌, ap, subst, arith, length-append}
 use Rattle.std.proofs.lemmas.Bool.{cases_lt, eqb-true, cond-true, lt-ltb, le-leb, ltb-true, leb-true, and_parts}
 use Rattle.std.proofs.lemmas.List.{take-append-drop, length-take, append-nil, drop_all}
-use Rattle.std.specs.Prelude.{IsSome, MatchResult, Result, Ok, Err}
+use Rattle.std.specs.Prelude.{IsSome}
 use Rattle.std.specs.List.{flat_map, AllByRecursion}
 use Rattle.std.specs.Option.{option_map_or}
 use Rattle.store_base.specs.VInt.{◌>>=◌}
@@ -15,14 +15,9 @@ use Rattle.layered_index.specs.declared.layers.Run.{Run}
 use Rattle.layered_index.specs.Checkpoint.{checkpoint, docs_end, bytes_end, IsInLineFrom, IsInLine, step, checkpoint_block}
 use Rattle.layered_index.specs.Layers.{groups, layer_text, pointers, layer_above}
 use Rattle.layered_index.specs.BlockReading.{steps_at, heading_at, ends_of, run_at}
-use Rattle.layered_index.specs.LayerReading.{items, may_stand, len_from, len_at, pointers_at, ArePointers, IsLayerBelow}
-use Rattle.layered_index.specs.Tables.{EndLists, no_ends, with_ends}
-use Rattle.layered_index.specs.Refusal.{BreaksOnlyUnless}
-use Rattle.layered_index.specs.declared.fault.LayerFault.{LayerFault}
-use Rattle.layered_index.specs.declared.fault.LayerFault.TheVariants.{Broken, OutOfMemory}
+use Rattle.layered_index.specs.LayerReading.{may_stand, len_from, len_at, pointers_at}
 use Rattle.layered_index.specs.Faults.{standing_from, PassedTo, BreaksAt}
 use Rattle.layered_index.proofs.FaultLemmas.{passed_here}
-use Rattle.layered_index.proofs.TableLemmas.{none_to_come}
 use Rattle.layered_index.proofs.BlockReadingLemmas.{heading_again, heading_read, steps_again, steps_read, some_block}
 use Rattle.layered_index.proofs.CheckpointLemmas.{block_some}
 use Rattle.layered_index.proofs.GroupLemmas.{groups_none, groups_more, by_runs}
@@ -312,35 +307,15 @@ layer_none period bytes e some = not_some (len_at period bytes) (len_at_is perio
     not_some None e h = absurd cc
     not_some (Some x) e h = absurd cc
 
--- What walking over the runs gives, where the first begins as the heading says, is what walking over the layer gives.
-pub layer_walked : (period : ℕ) (text : List ℕ) (above : Option (List Checkpoint)) (h : Heading) (steps : List ℕ) (old new : EndLists) (r : Result (Unit {0}) LayerFault)
-    → heading_at text ≡ Some (h, steps) → old ≡ no_ends
-    → MatchResult r (λ _. IsSome (len_from period h.doc h.byte text) × ArePointers above (pointers_at 0 text)
-    × (with_ends new [] ≡ with_ends old (items 0 0 0 text))) (BreaksOnlyUnless (IsSome (len_from period h.doc h.byte text) × ArePointers above (pointers_at 0 text))
-    (λ byte. (byte ≤ length text) × PassedTo above (standing_from period h.doc h.byte 0 text) 0 byte))
-    → MatchResult r (λ _. IsLayerBelow period above text × (new ≡ with_ends no_ends (items 0 0 0 text)))
-    (BreaksOnlyUnless (IsLayerBelow period above text) (λ byte. (byte ≤ length text) × BreaksAt period above text byte))
-layer_walked period text above h steps old new r e none walked = by_result r walked
-  where
-    same : len_at period text ≡ len_from period h.doc h.byte text
-    same = len_at_is period text ∙ ap (λ (o : Option (Heading × List ℕ)). o >>= λ h. len_from period h.0.doc h.0.byte text) e
+-- A walk over the runs, where the first begins as the heading says, is one over the layer: what it counts,
+pub layer_counted : (period : ℕ) (text : List ℕ) (h : Heading) (steps : List ℕ) → heading_at text ≡ Some (h, steps) → len_at period text ≡ len_from period h.doc h.byte text
+layer_counted period text h steps e = len_at_is period text ∙ ap (λ (o : Option (Heading × List ℕ)). o >>= λ g. len_from period g.0.doc g.0.byte text) e
 
-    standing : option_map_or (λ (g : Heading × List ℕ). standing_from period g.0.doc g.0.byte 0 text) (heading_at text) [] ≡ standing_from period h.doc h.byte 0 text
-    standing = ap (λ (o : Option (Heading × List ℕ)). option_map_or (λ (g : Heading × List ℕ). standing_from period g.0.doc g.0.byte 0 text) o []) e
-
-    by_fault : (fault : LayerFault) → BreaksOnlyUnless (IsSome (len_from period h.doc h.byte text) × ArePointers above (pointers_at 0 text))
-        (λ byte. (byte ≤ length text) × PassedTo above (standing_from period h.doc h.byte 0 text) 0 byte) fault
-        → BreaksOnlyUnless (IsLayerBelow period above text) (λ byte. (byte ≤ length text) × BreaksAt period above text byte) fault
-    by_fault (Broken byte) w = (λ good. w.0 (subst IsSome same good.0, good.1), (w.1.0, subst (λ (ps : List Checkpoint). PassedTo above ps 0 byte) (sym standing) w.1.1))
-    by_fault OutOfMemory w = tt
-
-    by_result : (r : Result (Unit {0}) LayerFault) → MatchResult r (λ _. IsSome (len_from period h.doc h.byte text) × ArePointers above (pointers_at 0 text)
-        × (with_ends new [] ≡ with_ends old (items 0 0 0 text))) (BreaksOnlyUnless (IsSome (len_from period h.doc h.byte text) × ArePointers above (pointers_at 0 text))
-        (λ byte. (byte ≤ length text) × PassedTo above (standing_from period h.doc h.byte 0 text) 0 byte))
-        → MatchResult r (λ _. IsLayerBelow period above text × (new ≡ with_ends no_ends (items 0 0 0 text)))
-        (BreaksOnlyUnless (IsLayerBelow period above text) (λ byte. (byte ≤ length text) × BreaksAt period above text byte))
-    by_result (Ok x) w = ((subst IsSome (sym same) w.0, w.1), sym (none_to_come new) ∙ w.2 ∙ ap (λ (ends : EndLists). with_ends ends (items 0 0 0 text)) none)
-    by_result (Err fault) w = by_fault fault w
+-- and where it breaks a rule
+pub layer_breaks_at : (period : ℕ) (above : Option (List Checkpoint)) (text : List ℕ) (h : Heading) (steps : List ℕ) (byte : ℕ) → heading_at text ≡ Some (h, steps)
+    → PassedTo above (standing_from period h.doc h.byte 0 text) 0 byte → BreaksAt period above text byte
+layer_breaks_at period above text h steps byte e to = subst (λ (o : Option (Heading × List ℕ)).
+    PassedTo above (option_map_or (λ (g : Heading × List ℕ). standing_from period g.0.doc g.0.byte 0 text) o []) 0 byte) (sym e) to
 
 -- no heading, no run
 pub layer_breaks : (period : ℕ) (above : Option (List Checkpoint)) (text : List ℕ) → heading_at text ≡ None → BreaksAt period above text 0

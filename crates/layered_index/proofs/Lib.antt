@@ -19,11 +19,8 @@ pub mod HalvingLemmas
 pub mod NearLemmas
 pub mod PassLemmas
 pub mod SplitLemmas
-pub mod SplitLoopLemmas
 pub mod OpenLemmas
 pub mod ShortNumberLemmas
-pub mod TableLemmas
-pub mod CoveredLemmas
 pub mod RefusalLemmas
 pub mod BlockLemmas
 pub mod BuilderLemmas
@@ -32,6 +29,11 @@ pub mod ClosingLemmas
 pub mod PointedLemmas
 pub mod SoughtLemmas
 pub mod IndexHeadLemmas
+pub mod RowListLemmas
+pub mod CoveredLemmas
+pub mod TallyLemmas
+pub mod CutLemmas
+pub mod WalkDownLemmas
 pub mod RestOfLayerLemmas
 pub mod DescentLemmas
 pub mod OuterLayersLemmas
@@ -39,4 +41,6 @@ pub mod LineLemmas
 pub mod RowLemmas
 pub mod RowSeekLemmas
 pub mod LowerLemmas
+pub mod MarkLemmas
+pub mod LastRunLemmas
 pub mod OutlineLemmas

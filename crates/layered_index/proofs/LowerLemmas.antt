@@ -164,16 +164,19 @@ pointed_to period target cs c one h e = by_case (first_past (layer_above period 
     by_case None none = absurd (none_is_some (first_past cs target) (none_pointed period target cs one h none) e)
     by_case (Some p) some = (p, some)
 
--- The lowest layers lead from what is found above them to the first past the target.
-abbrev pub LeadsLower : ℕ → ℕ → List Checkpoint → Option Checkpoint → Option (List (List ℕ)) → Type 0
-LeadsLower period target bottom found left = (run : List ℕ) × LeadsOn period target bottom found run left
+-- The lowest layers lead from what was found to the first past the target. It was found in these bytes, where nothing was
+-- found above the highest.
+abbrev pub LeadsLower : ℕ → ℕ → List Checkpoint → Option Checkpoint → Option Checkpoint → List ℕ → Option (List (List ℕ)) → Type 0
+LeadsLower period target bottom above found run left = (in_run : List ℕ) × LeadsOn period target bottom found in_run left × (above ≡ None → in_run ≡ run)
 
-pub leads_lower : (period target height place : ℕ) (ends texts : List ℕ) (cs : List Checkpoint) (found : Option Checkpoint) → 2 ≤ period → period ≤ 64 → IsInLine cs → length texts < 2 ^ 64
-    → layers_left height place ends texts ≡ Some (lower_texts period height cs) → IsFoundIn period height cs target found → LeadsLower period target cs found (layers_left height place ends texts)
-leads_lower period target height place ends texts cs None two small h fits left digits =
+pub leads_lower : (period target height place : ℕ) (ends texts : List ℕ) (cs : List Checkpoint) (found : Option Checkpoint) (run : List ℕ) → 2 ≤ period → period ≤ 64 → IsInLine cs
+    → length texts < 2 ^ 64
+    → layers_left height place ends texts ≡ Some (lower_texts period height cs) → IsFoundIn period height cs target found
+    → LeadsLower period target cs found found run (layers_left height place ends texts)
+leads_lower period target height place ends texts cs None run two small h fits left digits =
     let all = small_left period height place ends texts cs fits left in
-    ([], (lower_texts period height cs, left, leads_all period target height cs [] two small h (sym digits) all))
-leads_lower period target height place ends texts cs (Some p) two small h fits left found =
+    (run, (lower_texts period height cs, left, leads_all period target height cs run two small h (sym digits) all), λ _. refl)
+leads_lower period target height place ends texts cs (Some p) run two small h fits left found =
     let one : 1 ≤ period = omega arith in
     let all = small_left period height place ends texts cs fits left in
     let at = leads_at period target height cs cs [] one small h all (λ e. e) (λ q d above e. (e, rest_found period target cs q one small h above)) in
@@ -185,6 +188,7 @@ leads_lower period target height place ends texts cs (Some p) two small h fits l
         left,
         subst (Leads period target cs (Some p) (from_pointer (layer_text period layer) (Some above.0))) (append-nil (lower_texts period height cs)) (at.1 (Some above.0) p above.1 found),
       ),
+      λ none. absurd cc,
     )
 
 -- what holds of the layers that are seen holds of those inside

@@ -1,27 +1,19 @@
 -- An index that passes is the index of its lowest layer's list, and the index of a list in line passes.
-use Rattle.std.proofs.Common.{◌≡◌, ℕ, ◌<◌, ◌≤◌, ◌^◌, List, [], ◌∷◌, ◌++◌, length, map, reverse, Option, Some, None, inl, refl, sym, ◌∙◌, ap, subst, arith, length-append}
+use Rattle.std.proofs.Common.{◌≡◌, ℕ, ◌<◌, ◌≤◌, ◌^◌, List, [], ◌∷◌, ◌++◌, length, map, reverse, Option, Some, None, refl, sym, ◌∙◌, ap, subst, arith, length-append}
 use Rattle.std.proofs.lemmas.List.{length-reverse, reverse-reverse, reverse-append}
 use Rattle.std.specs.List.{flat_map, concat, AllByRecursion}
 use Rattle.store_base.proofs.ListLemmas.{all_append}
 use Rattle.store_base.specs.VInt.{number}
-use Rattle.store_base.specs.ReadingLemmas.{bind_some, some_is}
+use Rattle.store_base.specs.ReadingLemmas.{some_is}
 use Rattle.store_base.specs.Serialize.{IsBytes}
 use Rattle.layered_index.specs.declared.checkpoint.Checkpoint.{Checkpoint}
-use Rattle.layered_index.specs.declared.fault.ReadFault.{ReadFault}
-use Rattle.layered_index.specs.declared.fault.ReadFault.TheVariants.{Malformed, OutOfMemory}
 use Rattle.layered_index.specs.Checkpoint.{IsInLine}
 use Rattle.layered_index.specs.Layers.{layer_text, digit_count, layers, ends_from, texts_down, index_part}
-use Rattle.layered_index.specs.LayerReading.{items}
-use Rattle.layered_index.specs.Tables.{no_ends, with_ends}
-use Rattle.layered_index.specs.declared.fault.Refusal.{Refusal}
-use Rattle.layered_index.specs.declared.fault.Refusal.TheVariants as refusal
 use Rattle.layered_index.specs.declared.index_fault.IndexFault.{IndexFault}
-use Rattle.layered_index.specs.Faults.{fault_of_list, HasFault, FaultOf, IsFirstFault}
-use Rattle.layered_index.specs.Refusal.{Fails, RefusedOnlyUnless, in_list}
-use Rattle.layered_index.specs.IndexReading.{texts_at, ends_at, split_at, AreLayersBelow, AreLayers, last_items, last_ends, IsIndexPart, HasIndex}
+use Rattle.layered_index.specs.Faults.{fault_of_list, FaultOf, IsFirstFault}
+use Rattle.layered_index.specs.IndexReading.{split_at, AreLayers, last_items, IsIndexPart, HasIndex}
 use Rattle.layered_index.proofs.IndexLemmas.{index_parts, length-texts_down}
-use Rattle.layered_index.proofs.SplitLemmas.{joined, texts_read, split_read, split_again, texts_are_bytes}
-use Rattle.layered_index.proofs.SplitLoopLemmas.{ends_following, after_shorter}
+use Rattle.layered_index.proofs.SplitLemmas.{joined, split_read, split_again, texts_are_bytes}
 use Rattle.layered_index.proofs.PassLemmas.{AreLayersAbove, first_items, turned, last_is_first, above_read, above_again, few_layers}
 
 pub all_reverse : {A : Type 0} (P : A → Type 0) (xs : List A) → AllByRecursion P xs → AllByRecursion P (reverse xs)
@@ -80,17 +72,16 @@ opens_again period bytes cs two small fits is =
       },
     )
 
--- Bytes that can't be cut are no index.
-pub opens_fail : (period : ℕ) (bytes : List ℕ) (fault : ReadFault) → 2 ≤ period → period ≤ 64 → length bytes < 2 ^ 64 → Fails fault (split_at bytes)
-    → RefusedOnlyUnless (HasIndex period bytes) (IsFirstFault period bytes) (in_list fault)
-opens_fail period bytes Malformed two small fits h = (
-  λ has. none_is_none (sym h ∙ (opens_again period bytes has.0 two small fits has.1).0),
-  subst (λ (o : Option (List (List ℕ))). FaultOf period (length bytes) fault_of_list o) (sym h) refl,
+-- Bytes that can't be cut are no index, and their fault is that of the list of layers.
+pub opens_fail : (period : ℕ) (bytes : List ℕ) → 2 ≤ period → period ≤ 64 → length bytes < 2 ^ 64 → split_at bytes ≡ None
+    → (HasIndex period bytes → ⊥) × IsFirstFault period bytes fault_of_list
+opens_fail period bytes two small fits none = (
+  λ has. none_is_none (sym none ∙ (opens_again period bytes has.0 two small fits has.1).0),
+  subst (λ (o : Option (List (List ℕ))). FaultOf period (length bytes) fault_of_list o) (sym none) refl,
 )
   where
     none_is_none : {A : Type 0} {x : A} → None ≡ Some x → ⊥
     none_is_none e = cc
-opens_fail period bytes OutOfMemory two small fits h = tt
 
 -- Texts that are no layers are those of no index.
 pub opens_refused : (period : ℕ) (bytes : List ℕ) (ts : List (List ℕ)) → 2 ≤ period → period ≤ 64 → length bytes < 2 ^ 64 → split_at bytes ≡ Some ts → (AreLayers period ts → ⊥) → HasIndex period bytes
@@ -102,22 +93,3 @@ opens_refused period bytes ts two small fits e fails has =
 -- a fault that is told of the texts
 pub first_of : (period : ℕ) (bytes : List ℕ) (ts : List (List ℕ)) (fault : IndexFault) → split_at bytes ≡ Some ts → FaultOf period (length bytes) fault (Some ts) → IsFirstFault period bytes fault
 first_of period bytes ts fault e told = subst (FaultOf period (length bytes) fault) (sym e) told
-
--- a fault of the walk
-pub opens_walked : (period : ℕ) (bytes : List ℕ) (ts : List (List ℕ)) (refusal : Refusal) → 2 ≤ period → period ≤ 64 → length bytes < 2 ^ 64 → split_at bytes ≡ Some ts
-    → RefusedOnlyUnless (AreLayersBelow period None ts) (HasFault period (length bytes) None ts) refusal → RefusedOnlyUnless (HasIndex period bytes) (IsFirstFault period bytes) refusal
-opens_walked period bytes ts (refusal.Broken fault) two small fits e fails =
-    (opens_refused period bytes ts two small fits e (λ are. fails.0 are.below), first_of period bytes ts fault e (inl fails.1))
-opens_walked period bytes ts refusal.OutOfMemory two small fits e fails = tt
-
--- the layers are of the bytes
-pub split_within : (bytes : List ℕ) (ts : List (List ℕ)) → split_at bytes ≡ Some ts → length (concat ts) ≤ length bytes
-unfolding split_at
-split_within bytes ts e =
-    let a = bind_some (ends_at bytes) (λ ends. texts_at 0 ends.0 ends.1) ts e in
-    omega (arith, after_shorter bytes a.0.1 (ends_following bytes a.0 a.1), ap length (texts_read 0 a.0.0 a.0.1 ts a.2).1)
-
--- where the last one's checkpoints end
-pub last_kept : (cs : List Checkpoint) (ts : List (List ℕ)) → last_ends (with_ends no_ends cs) ts ≡ with_ends no_ends (last_items cs ts)
-last_kept cs [] = refl
-last_kept cs (t ∷ ts) = last_kept (items 0 0 0 t) ts

@@ -1,30 +1,33 @@
 -- The top layer of an index, which tells where the documents end, and the bottom layer, which has its checkpoints.
-use Rattle.std.proofs.Common.{◌≡◌, ℕ, zero, suc, ◌+◌, ◌-◌, ◌*◌, ◌<◌, ◌≤◌, ◌^◌, List, [], ◌∷◌, ◌++◌, length, map, reverse, Option, Some, None, refl, sym, ◌∙◌, ap, subst, arith}
-use Rattle.std.proofs.lemmas.List.{append-nil, reverse-reverse}
-use Rattle.std.proofs.Math.Nat.{pow-suc, pow-zero}
+use Rattle.std.proofs.Common.{◌≡◌, ℕ, zero, suc, ◌+◌, ◌-◌, ◌<◌, ◌≤◌, ◌^◌, inl, inr, List, [], ◌∷◌, ◌++◌, length, Option, Some, None, refl, sym, ◌∙◌, ap, subst, arith}
+use Rattle.std.proofs.lemmas.List.{append-nil}
 use Rattle.std.specs.Prelude.{Result, Ok}
 use Rattle.store_base.specs.declared.error.StoreError.{StoreError}
 use Rattle.std.specs.List.{flat_map, AllByRecursion}
 use Rattle.store_base.specs.ReadingLemmas.{some_is}
 use Rattle.layered_index.specs.declared.checkpoint.Checkpoint.{Checkpoint}
-use Rattle.layered_index.specs.Checkpoint.{docs_end, IsInLine, checkpoint_block, first_past}
-use Rattle.layered_index.specs.Layers.{groups, layer_text, docs_start, pointers, layer_above, digit_count, layers_from, layers, texts_down}
-use Rattle.layered_index.specs.IndexReading.{last_items, IsIndexPart}
+use Rattle.layered_index.specs.Checkpoint.{docs_end, IsInLineFrom, IsInLine, step, checkpoint_block}
+use Rattle.layered_index.specs.Layers.{groups, layer_text, pointers, layer_above, digit_count}
+use Rattle.layered_index.specs.IndexReading.{IsIndexPart}
 use Rattle.layered_index.specs.LayerReading.{items}
 use Rattle.layered_index.proofs.LineLemmas.{in_line_somewhere}
-use Rattle.layered_index.specs.Sought.{sought_at, IsFoundAbove, layers_left, next_layer, IsHeaded}
-use Rattle.layered_index.specs.declared.run_seek.Sought.{Sought}
-use Rattle.layered_index.proofs.SoughtLemmas.{top_sought}
-use Rattle.layered_index.proofs.IndexLemmas.{digit_count_zero, no_layers}
+use Rattle.layered_index.specs.Sought.{IsFoundAbove, next_layer, IsHeaded}
+use Rattle.layered_index.specs.declared.run_reading.Heading.{Heading}
+use Rattle.layered_index.proofs.SoughtLemmas.{heading_of_run}
+use Rattle.layered_index.proofs.BlockReadingLemmas.{step_again}
+use Rattle.layered_index.specs.BlockReading.{step_at, heading_at}
+use Rattle.layered_index.proofs.IndexLemmas.{no_layers}
 use Rattle.layered_index.proofs.DigitLemmas.{below_digits}
 use Rattle.layered_index.proofs.LayerLemmas.{layer_above_is_in_line}
-use Rattle.layered_index.proofs.PassLemmas.{turn, above_some, first_items, last_is_first, above_again}
-use Rattle.layered_index.proofs.CursorLemmas.{items_none}
+use Rattle.std.proofs.lemmas.Bool.{cases_lt}
+use Rattle.layered_index.proofs.CursorLemmas.{items_layer, items_none}
 use Rattle.layered_index.proofs.GroupLemmas.{groups_joined}
 use Rattle.layered_index.proofs.RunLemmas.{IsRun, groups_are_runs}
-use Rattle.layered_index.proofs.OpenLemmas.{small_texts, opens_again}
-use Rattle.layered_index.proofs.IndexHeadLemmas.{is_next, none_left, none_is_some, head_left, head_digits}
-use Rattle.layered_index.proofs.DescentLemmas.{few_above}
+use Rattle.layered_index.proofs.OpenLemmas.{small_texts}
+use Rattle.layered_index.proofs.IndexHeadLemmas.{none_is_some, head_digits}
+use Rattle.layered_index.proofs.LowerLemmas.{AreSmall, lower_first, lower_there, lower_next}
+use Rattle.layered_index.proofs.OutlineLemmas.{at_in_line, some_at, some_digits, few_at}
+use Rattle.layered_index.specs.Rows.{layer_at}
 
 -- ---- where the documents end
 
@@ -51,134 +54,115 @@ pub record IsTop (period : ℕ) (end : ℕ) (text : List ℕ) : Type 0 where
   pub one_run : IsFoundAbove period 0 None list
   pub docs : docs_end 0 list ≡ end
 
-record HasTop (period : ℕ) (end : ℕ) (ts : List (List ℕ)) : Type 0 where
-  top : List ℕ
-  others : List (List ℕ)
-  parts : ts ≡ top ∷ others
-  is : IsTop period end top
-
-top_down : (period k : ℕ) (cs : List Checkpoint) (us : List (List ℕ)) → 2 ≤ period → period ≤ 64 → 0 < length cs → length cs ≤ period ^ suc k → IsInLine cs
-    → AllByRecursion (λ t. length t < 2 ^ 64) (map (layer_text period) (layers_from period (suc k) cs))
-    → HasTop period (docs_end 0 cs) (reverse (map (layer_text period) (layers_from period (suc k) cs)) ++ us)
-top_down period zero cs us two small some few h all =
-    let once : 1 * period ≡ period = omega arith in
-    let power : period ^ 1 ≡ period = pow-suc period 0 ∙ ap (λ (n : ℕ). n * period) (pow-zero period) ∙ once in
-    record { top = layer_text period cs; others = us; parts = turn (layer_text period cs) [] us; is = record { list = cs; in_line = h; is_text = refl; one_run = (some, omega arith); docs = refl } }
-top_down period (suc k) cs us two small some few h all =
-    let above = layer_above period cs in
-    let one : 1 ≤ period = omega arith in
-    let on = top_down period k above (layer_text period cs ∷ us) two small (above_some period cs one some) (few_above period (period ^ suc k) cs one (omega (arith, few, pow-suc period (suc k))))
-    (layer_above_is_in_line period cs one small h all.0) all.1 in
-    record {
-      top = on.top;
-      others = on.others;
-      parts = turn (layer_text period cs) (map (layer_text period) (layers_from period (suc k) above)) us ∙ on.parts;
-      is = record { list = on.is.list; in_line = on.is.in_line; is_text = on.is.is_text; one_run = on.is.one_run; docs = on.is.docs ∙ docs_end-above period cs one h };
-    }
-
-top_of : (period count : ℕ) (cs : List Checkpoint) → 2 ≤ period → period ≤ 64 → IsInLine cs → digit_count period (length cs) ≡ suc count
-    → AllByRecursion (λ t. length t < 2 ^ 64) (map (layer_text period) (layers_from period (suc count) cs))
-    → HasTop period (docs_end 0 cs) (reverse (map (layer_text period) (layers_from period (suc count) cs)))
-top_of period k [] two small h digits all = absurd (omega (arith, digit_count_zero period))
-top_of period k (c ∷ cs) two small h digits all =
-    let few : length (c ∷ cs) < period ^ suc k = subst (λ (d : ℕ). length (c ∷ cs) < period ^ d) digits (below_digits period (length (c ∷ cs)) two) in
-    subst (HasTop period (docs_end 0 (c ∷ cs))) (append-nil (reverse (map (layer_text period) (layers_from period (suc k) (c ∷ cs)))))
-    (top_down period k (c ∷ cs) [] two small (omega arith) (omega arith) h all)
+docs_end_at : (period height count : ℕ) (cs : List Checkpoint) → 1 ≤ period → period ≤ 64 → height ≤ count → IsInLine cs → AreSmall period count cs
+    → docs_end 0 (layer_at period height cs) ≡ docs_end 0 cs
+docs_end_at period zero count cs one small le h all = refl
+docs_end_at period (suc height) zero cs one small le h all = absurd (omega arith)
+docs_end_at period (suc height) (suc count) cs one small le h all =
+    docs_end_at period height count (layer_above period cs) one small (omega arith) (layer_above_is_in_line period cs one small h all.0) all.1 ∙ docs_end-above period cs one h
 
 -- an index without layers is that of no checkpoints
 pub head_none : (period : ℕ) (bytes : List ℕ) (count : ℕ) (ends texts : List ℕ) (cs : List Checkpoint) → IsHeaded period bytes count ends texts → count ≡ 0 → IsIndexPart period bytes cs → cs ≡ []
 head_none period bytes count ends texts cs head none is = no_layers period cs head.two (sym (head_digits period bytes count ends texts cs head is) ∙ none)
 
-record FirstIsTop (period end : ℕ) (ends texts : List ℕ) : Type 0 where
-  top : List ℕ
-  following : ℕ
-  more_ends : List ℕ
-  more : List ℕ
-  next : next_layer 0 ends texts ≡ Some (top, following, more_ends, more)
-  is : IsTop period end top
-
-first_is_top : (period : ℕ) (bytes : List ℕ) (count : ℕ) (ends texts : List ℕ) (cs : List Checkpoint) → IsHeaded period bytes count ends texts → length bytes < 2 ^ 64 → (count ≡ 0 → ⊥)
-    → IsIndexPart period bytes cs → FirstIsTop period (docs_end 0 cs) ends texts
-first_is_top period bytes zero ends texts cs head fits some is = absurd (some refl)
-first_is_top period bytes (suc count) ends texts cs head fits some is =
-    let digits = sym (head_digits period bytes (suc count) ends texts cs head is) in
-    let all = subst (λ (d : ℕ). AllByRecursion (λ t. length t < 2 ^ 64) (map (layer_text period) (layers_from period d cs))) digits (small_texts period bytes cs fits is) in
-    let has = subst (λ (d : ℕ). HasTop period (docs_end 0 cs) (reverse (map (layer_text period) (layers_from period d cs)))) (sym digits) (top_of period count cs head.two head.few is.0 digits all) in
-    let left = head_left bytes (suc count) ends texts (texts_down period cs) head.counted head.following (opens_again period bytes cs head.two head.few fits is).0 in
-    let next = is_next count 0 ends texts (texts_down period cs) left in
-    let same : next.layer ≡ has.top = firsts next.layer has.top next.others has.others (sym next.parts ∙ has.parts) in
-    record { top = next.layer; following = next.end; more_ends = next.more_ends; more = next.more; next = next.next; is = subst (IsTop period (docs_end 0 cs)) (sym same) has.is }
-  where
-    firsts : (x y : List ℕ) (xs ys : List (List ℕ)) → x ∷ xs ≡ y ∷ ys → x ≡ y
-    firsts x y xs ys e = cc
-
 -- there is a top layer
 pub top_there : (period : ℕ) (bytes : List ℕ) (count : ℕ) (ends texts : List ℕ) (cs : List Checkpoint) → IsHeaded period bytes count ends texts → length bytes < 2 ^ 64 → (count ≡ 0 → ⊥)
     → IsIndexPart period bytes cs → next_layer 0 ends texts ≡ None → ⊥
-top_there period bytes count ends texts cs head fits some is none = none_is_some (next_layer 0 ends texts) none (first_is_top period bytes count ends texts cs head fits some is).next
+top_there period bytes count ends texts cs head fits some is = lower_there period count 0 ends texts cs (omega (arith, some)) (lower_first period bytes count ends texts cs head fits is)
 
 pub top_is : (period : ℕ) (bytes : List ℕ) (count : ℕ) (ends texts : List ℕ) (cs : List Checkpoint) (top : List ℕ) (following : ℕ) (more_ends more : List ℕ) → IsHeaded period bytes count ends texts
     → length bytes < 2 ^ 64 → (count ≡ 0 → ⊥) → IsIndexPart period bytes cs → next_layer 0 ends texts ≡ Some (top, following, more_ends, more) → IsTop period (docs_end 0 cs) top
 top_is period bytes count ends texts cs top following more_ends more head fits some is e =
-    let first = first_is_top period bytes count ends texts cs head fits some is in
-    subst (IsTop period (docs_end 0 cs)) (ap (λ (x : List ℕ × ℕ × List ℕ × List ℕ). x.0)
-    (some_is (first.top, first.following, first.more_ends, first.more) (top, following, more_ends, more) (sym first.next ∙ e))) first.is
+    let digits = head_digits period bytes count ends texts cs head is in
+    let left = lower_first period bytes count ends texts cs head fits is in
+    let all = small_texts period bytes cs fits is in
+    let within : count - 1 ≤ digit_count period (length cs) = omega (arith, digits) in
+    let filled = some_digits period (count - 1) cs (omega (arith, digits, some)) in
+    let power : digit_count period (length cs) ≡ suc (count - 1) = omega (arith, digits, some) in
+    let few : length cs < period ^ suc (count - 1) = subst (λ (d : ℕ). length cs < period ^ d) power (below_digits period (length cs) head.two) in
+    let two = head.two in
+    record {
+      list = layer_at period (count - 1) cs;
+      in_line = at_in_line period (count - 1) (digit_count period (length cs)) cs (omega (arith, two)) head.few within is.0 all;
+      is_text = (lower_next period count 0 ends texts top following more_ends more cs (omega (arith, some)) left e).text;
+      one_run = (some_at period (count - 1) cs (omega (arith, two)) filled, few_at period (count - 1) cs (omega (arith, two)) (omega (arith, few)));
+      docs = docs_end_at period (count - 1) (digit_count period (length cs)) cs (omega (arith, two)) head.few within is.0 all;
+    }
 
 -- ---- the bottom layer
 
--- the last of the layers that are left gives the list, or the one before them if none is left
-abbrev pub LastGives : List Checkpoint → List ℕ → Option (List (List ℕ)) → Type 0
-LastGives cs before left = (ts : List (List ℕ)) × (left ≡ Some ts) × (last_items (items 0 0 0 before) ts ≡ cs)
-
-pub last_gives : (period : ℕ) (bytes : List ℕ) (count : ℕ) (ends texts : List ℕ) (cs : List Checkpoint) (none : List ℕ) → IsHeaded period bytes count ends texts → length bytes < 2 ^ 64 → none ≡ []
-    → IsIndexPart period bytes cs → LastGives cs none (layers_left count 0 ends texts)
-last_gives period bytes count ends texts cs none head fits empty is =
-    let ts = texts_down period cs in
-    let up = map (layer_text period) (layers period cs) in
-    let again = above_again period cs head.two head.few is.0 (small_texts period bytes cs fits is) in
-    let last : last_items [] ts ≡ cs = last_is_first ts ∙ ap first_items (reverse-reverse up) ∙ again.1 in
-    let nothing : items 0 0 0 none ≡ [] = ap (items 0 0 0) empty ∙ items_none 0 0 in
-    (ts, head_left bytes count ends texts ts head.counted head.following (opens_again period bytes cs head.two head.few fits is).0, ap (λ (xs : List Checkpoint). last_items xs ts) nothing ∙ last)
-
-pub last_there : (cs : List Checkpoint) (before : List ℕ) (count i place : ℕ) (ends texts : List ℕ) → i < count → LastGives cs before (layers_left (count - i) place ends texts)
-    → next_layer place ends texts ≡ None → ⊥
-last_there cs before count i place ends texts lt gives none =
-    let k : count - i ≡ suc (count - (i + 1)) = omega arith in
-    let next = is_next (count - (i + 1)) place ends texts gives.0 (ap (λ (n : ℕ). layers_left n place ends texts) (sym k) ∙ gives.1) in
-    none_is_some (next_layer place ends texts) none next.next
-
-pub last_on : (cs : List Checkpoint) (before : List ℕ) (count i place : ℕ) (ends texts layer : List ℕ) (end : ℕ) (more_ends more : List ℕ) → i < count
-    → next_layer place ends texts ≡ Some (layer, end, more_ends, more) → LastGives cs before (layers_left (count - i) place ends texts)
-    → LastGives cs layer (layers_left (count - (i + 1)) end more_ends more)
-last_on cs before count i place ends texts layer end more_ends more lt e gives =
-    let k : count - i ≡ suc (count - (i + 1)) = omega arith in
-    let next = is_next (count - (i + 1)) place ends texts gives.0 (ap (λ (n : ℕ). layers_left n place ends texts) (sym k) ∙ gives.1) in
-    let same = some_is (next.layer, next.end, next.more_ends, next.more) (layer, end, more_ends, more) (sym next.next ∙ e) in
-    let given : last_items (items 0 0 0 next.layer) next.others ≡ cs = ap (last_items (items 0 0 0 before)) (sym next.parts) ∙ gives.2 in (
-      next.others,
-      ap (λ (x : List ℕ × ℕ × List ℕ × List ℕ). layers_left (count - (i + 1)) x.1 x.2 x.3) (sym same) ∙ next.left,
-      ap (λ (x : List ℕ × ℕ × List ℕ × List ℕ). last_items (items 0 0 0 x.0) next.others) (sym same) ∙ given,
-    )
-
-pub last_done : (cs : List Checkpoint) (before : List ℕ) (count i place : ℕ) (ends texts : List ℕ) → count ≤ i → LastGives cs before (layers_left (count - i) place ends texts)
-    → (items 0 0 0 before ≡ cs) × (length texts ≡ 0)
-last_done cs before count i place ends texts le gives =
-    let k : count - i ≡ 0 = omega arith in
-    let none = none_left place ends texts gives.0 (ap (λ (n : ℕ). layers_left n place ends texts) (sym k) ∙ gives.1) in
-    (ap (last_items (items 0 0 0 before)) (sym none.0) ∙ gives.2, none.1)
+-- the last layer that is passed gives the list
+pub bottom_gives : (period : ℕ) (bytes bottom : List ℕ) (cs : List Checkpoint) → 2 ≤ period → period ≤ 64 → IsIndexPart period bytes cs
+    → (0 < digit_count period (length cs) → bottom ≡ layer_text period cs) → (0 ≡ digit_count period (length cs) → bottom ≡ []) → items 0 0 0 bottom ≡ cs
+bottom_gives period bytes bottom cs two small is some none = elim (cases_lt 0 (digit_count period (length cs))) [
+  | inl lt ↦ ap (items 0 0 0) (some lt) ∙ items_layer period cs (omega arith) small is.0
+  | inr le ↦
+      let zero_digits : digit_count period (length cs) ≡ 0 = omega (arith, le) in
+      ap (items 0 0 0) (none (sym zero_digits)) ∙ items_none 0 0 ∙ sym (no_layers period cs two zero_digits)
+]
 
 pub end_is : (a b : ℕ) → a ≡ b → ◌≡◌ {A = Result ℕ StoreError} (Ok a) (Ok b)
 end_is a b e = ap (λ (n : ℕ). Ok n) e
 
--- what is read of the top layer
-pub top_read : (period end : ℕ) (text : List ℕ) (read : Option Sought) → period ≤ 64 → IsTop period end text → read ≡ sought_at period 0 text
-    → (found : Option Checkpoint) × (doc : ℕ) × (read ≡ Some (record { found = found; doc = doc; doc_end = end }))
-top_read period end text read small is e = (
-  first_past is.list 0,
-  docs_start is.list,
-  top_sought period 0 text is.list read small is.in_line is.is_text is.one_run e ∙ (λ i. Some (record { found = first_past is.list 0; doc = docs_start is.list; doc_end = is.docs i })),
-)
+-- ---- the block of the top layer
 
-pub top_end : (read : Option Sought) (s : Sought) (end : ℕ) → Some s ≡ read → (found : Option Checkpoint) × (doc : ℕ) × (read ≡ Some (record { found = found; doc = doc; doc_end = end }))
-    → s.doc_end ≡ end
-top_end read s end e h = ap (λ (x : Sought). x.doc_end) (some_is s (record { found = h.0; doc = h.1; doc_end = end }) (e ∙ h.2))
+-- the steps that are left of a block whose documents end there
+pub record AreSteps (doc byte count : ℕ) (bytes : List ℕ) (end : ℕ) : Type 0 where
+  pub left : List Checkpoint
+  pub line : IsInLineFrom doc byte left
+  pub text : bytes ≡ flat_map step left
+  pub counted : length left ≡ count
+  pub docs : docs_end doc left ≡ end
+
+-- what is read of the heading of a block
+pub record IsHeadOf (cs : List Checkpoint) (read : Option (Heading × List ℕ)) : Type 0 where
+  pub heading : Heading
+  pub rest : List ℕ
+  pub is : read ≡ Some (heading, rest)
+  pub count : heading.count ≡ length cs
+  pub steps : AreSteps heading.doc heading.byte heading.count rest (docs_end 0 cs)
+
+pub head_of : (cs : List Checkpoint) (bytes : List ℕ) → IsInLine cs → 0 < length cs → length cs ≤ 64 → bytes ≡ checkpoint_block cs → IsHeadOf cs (heading_at bytes)
+head_of [] bytes h some few text = absurd (omega arith)
+head_of (c ∷ cs) bytes h some few text = record {
+  heading = record { count = length (c ∷ cs); doc = c.doc_range.start; byte = c.byte_range.start };
+  rest = flat_map step (c ∷ cs) ++ [];
+  is = ap heading_at text ∙ heading_of_run c cs h (omega arith);
+  count = refl;
+  steps = record { left = c ∷ cs; line = h; text = append-nil (flat_map step (c ∷ cs)); counted = refl; docs = refl };
+}
+
+pub head_is : (cs : List Checkpoint) (read : Option (Heading × List ℕ)) (h : Heading) (rest : List ℕ) → IsHeadOf cs read → read ≡ Some (h, rest)
+    → (h.count ≡ length cs) × AreSteps h.doc h.byte h.count rest (docs_end 0 cs)
+head_is cs read h rest is e =
+    subst (λ (x : Heading × List ℕ). (x.0.count ≡ length cs) × AreSteps x.0.doc x.0.byte x.0.count x.1 (docs_end 0 cs)) (some_is (is.heading, is.rest) (h, rest) (sym is.is ∙ e)) (is.count, is.steps)
+
+-- one more is read
+record NextStep (doc byte count : ℕ) (bytes : List ℕ) (end : ℕ) : Type 0 where
+  next : Checkpoint
+  rest : List ℕ
+  is : step_at doc byte bytes ≡ Some (next, rest)
+  others : AreSteps next.doc_range.end next.byte_range.end (count - 1) rest end
+
+next_step : (doc byte count : ℕ) (bytes : List ℕ) (end : ℕ) → 0 < count → AreSteps doc byte count bytes end → NextStep doc byte count bytes end
+next_step doc byte count bytes end some are = by_left are.left are.line are.text are.counted are.docs
+  where
+    by_left : (left : List Checkpoint) → IsInLineFrom doc byte left → bytes ≡ flat_map step left → length left ≡ count → docs_end doc left ≡ end → NextStep doc byte count bytes end
+    by_left [] line text counted docs = absurd (omega arith)
+    by_left (c ∷ left) line text counted docs = record {
+      next = c;
+      rest = flat_map step left;
+      is = ap (step_at doc byte) text ∙ (λ i. step_at (sym line.0 i) (sym line.1 i) (step c ++ flat_map step left)) ∙ step_again c (flat_map step left) line.2;
+      others = record { left = left; line = line.3; text = refl; counted = omega arith; docs = docs };
+    }
+
+pub steps_there : (doc byte count i : ℕ) (bytes : List ℕ) (end : ℕ) → i < count → AreSteps doc byte (count - i) bytes end → step_at doc byte bytes ≡ None → ⊥
+steps_there doc byte count i bytes end lt are none = none_is_some (step_at doc byte bytes) none (next_step doc byte (count - i) bytes end (omega arith) are).is
+
+pub steps_on : (doc byte count i : ℕ) (bytes : List ℕ) (end : ℕ) (c : Checkpoint) (rest : List ℕ) → i < count → AreSteps doc byte (count - i) bytes end → step_at doc byte bytes ≡ Some (c, rest)
+    → AreSteps c.doc_range.end c.byte_range.end (count - (i + 1)) rest end
+steps_on doc byte count i bytes end c rest lt are e =
+    let next = next_step doc byte (count - i) bytes end (omega arith) are in
+    let one_less : count - i - 1 ≡ count - (i + 1) = omega arith in
+    subst (λ (x : Checkpoint × List ℕ). AreSteps x.0.doc_range.end x.0.byte_range.end (count - (i + 1)) x.1 end) (some_is (next.next, next.rest) (c, rest) (sym next.is ∙ e))
+    (subst (λ (n : ℕ). AreSteps next.next.doc_range.end next.next.byte_range.end n next.rest end) one_less next.others)

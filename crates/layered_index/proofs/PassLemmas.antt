@@ -138,7 +138,7 @@ above_again period cs two small h all = above_by period (digit_count period (len
 
 -- ---- how many there are
 
-length-texts-ge : (gs : List (List Checkpoint)) → 2 * length (flat_map (λ g. g) gs) ≤ length (flat_map checkpoint_block gs)
+pub length-texts-ge : (gs : List (List Checkpoint)) → 2 * length (flat_map (λ g. g) gs) ≤ length (flat_map checkpoint_block gs)
 length-texts-ge [] = omega arith
 length-texts-ge (g ∷ gs) = omega (
   arith,

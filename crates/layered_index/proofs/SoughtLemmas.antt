@@ -4,99 +4,32 @@ use Rattle.std.proofs.Common.{Option, Some, None, refl, sym, ◌∙◌, ap, subs
 use Rattle.std.proofs.lemmas.Bool.{lt-ltb, le-ltb, cases_lt, cond-true, cond-false}
 use Rattle.std.proofs.lemmas.List.{append-nil}
 use Rattle.std.specs.Prelude.{IfSome, slice_range}
-use Rattle.std.specs.Option.{option_or}
 use Rattle.std.specs.List.{flat_map}
 use Rattle.store_base.proofs.ListLemmas.{pass_none}
 use Rattle.store_base.specs.VInt.{◌>>=◌}
 use Rattle.store_base.specs.ReadingLemmas.{bind_some, some_is}
 use Rattle.store_base.specs.Serialize.{IsBytes}
 use Rattle.layered_index.specs.declared.checkpoint.Checkpoint.{Checkpoint}
-use Rattle.layered_index.specs.declared.run_seek.Sought.{Sought}
-use Rattle.layered_index.specs.Checkpoint.{docs_end, IsInLineFrom, IsInLine, step, checkpoint_block, first_past}
+use Rattle.layered_index.specs.Checkpoint.{IsInLineFrom, IsInLine, step, checkpoint_block, first_past}
 use Rattle.layered_index.specs.Layers.{layer_text, docs_start}
-use Rattle.layered_index.specs.BlockReading.{step_at, steps_at, heading_at}
-use Rattle.layered_index.specs.Sought.{sought_from, sought_at, scanned, scanned_at, IsPast, IsRunAt, IsFoundAbove}
-use Rattle.layered_index.proofs.BlockReadingLemmas.{step_again, step_read, heading_again, heading_read, steps_again}
+use Rattle.layered_index.specs.BlockReading.{step_at, heading_at}
+use Rattle.layered_index.specs.Sought.{scanned, scanned_at, IsPast, IsRunAt, IsFoundAbove}
+use Rattle.layered_index.proofs.BlockReadingLemmas.{step_again, step_read, heading_again, heading_read}
 use Rattle.layered_index.proofs.PointedLemmas.{run_pointed}
 use Rattle.layered_index.proofs.GrowthLemmas.{groups_one}
-
--- what holds anyway holds where there is a value
-pub if_any : {A P : Type 0} (found : Option A) → P → IfSome found (λ _. P)
-if_any None p = tt
-if_any (Some x) p = p
-
--- ---- one step of a block, as a loop takes it
-
-one_more : (target : ℕ) (found : Option Checkpoint) (doc : ℕ) (c : Checkpoint) (read : Option (List Checkpoint × List ℕ))
-    → sought_from target found doc (read >>= λ x. Some (c ∷ x.0, x.1)) ≡ sought_from target (option_or found (first_past (c ∷ []) target)) c.doc_range.end read
-one_more target (Some f) doc c (Some x) = refl
-one_more target None doc c (Some x) = by_test (ltb target c.doc_range.end)
-  where
-    by_test : (b : Bool) → ◌≡◌ {A = Option (Option Checkpoint × ℕ × List ℕ)}
-        (Some (cond b (Some c) (first_past x.0 target), docs_end c.doc_range.end x.0, x.1)) (Some (option_or (cond b (Some c) None) (first_past x.0 target), docs_end c.doc_range.end x.0, x.1))
-    by_test true = refl
-    by_test false = refl
-one_more target found doc c None = refl
-
-pub seek_goes_on : (target : ℕ) (found : Option Checkpoint) (count i doc byte : ℕ) (bytes : List ℕ) (c : Checkpoint) (after : List ℕ) (total : Option (Option Checkpoint × ℕ × List ℕ)) → i < count
-    → step_at doc byte bytes ≡ Some (c, after) → sought_from target found doc (steps_at (count - i) doc byte bytes) ≡ total
-    → sought_from target (option_or found (first_past (c ∷ []) target)) c.doc_range.end (steps_at (count - (i + 1)) c.doc_range.end c.byte_range.end after) ≡ total
-unfolding steps_at
-seek_goes_on target found count i doc byte bytes c after total lt h so_far =
-    let k : count - i ≡ suc (count - (i + 1)) = omega arith in
-    let one : sought_from target found doc (steps_at (count - i) doc byte bytes)
-    ≡ sought_from target (option_or found (first_past (c ∷ []) target)) c.doc_range.end (steps_at (count - (i + 1)) c.doc_range.end c.byte_range.end after) =
-    rw (k, h) (one_more target found doc c (steps_at (count - (i + 1)) c.doc_range.end c.byte_range.end after)) in
-    sym one ∙ so_far
-
-pub seek_ends : (target : ℕ) (found : Option Checkpoint) (count i doc byte : ℕ) (bytes : List ℕ) (total : Option (Option Checkpoint × ℕ × List ℕ)) → i < count → step_at doc byte bytes ≡ None
-    → sought_from target found doc (steps_at (count - i) doc byte bytes) ≡ total → total ≡ None
-unfolding steps_at
-seek_ends target found count i doc byte bytes total lt h so_far =
-    let k : count - i ≡ suc (count - (i + 1)) = omega arith in
-    let one : sought_from target found doc (steps_at (count - i) doc byte bytes) ≡ None = rw (k, h) refl in
-    sym so_far ∙ one
-
-pub seek_is_done : (target : ℕ) (found : Option Checkpoint) (count i doc byte : ℕ) (bytes : List ℕ) (total : Option (Option Checkpoint × ℕ × List ℕ)) → count ≤ i
-    → sought_from target found doc (steps_at (count - i) doc byte bytes) ≡ total → total ≡ Some (found, doc, bytes)
-unfolding steps_at
-seek_is_done target found count i doc byte bytes total le so_far =
-    let k : count - i ≡ 0 = omega arith in
-    let one : sought_from target found doc (steps_at (count - i) doc byte bytes) ≡ Some (found, doc, bytes) = rw k (by_found found) in
-    sym so_far ∙ one
-  where
-    by_found : (o : Option Checkpoint) → ◌≡◌ {A = Option (Option Checkpoint × ℕ × List ℕ)} (Some (option_or o None, doc, bytes)) (Some (o, doc, bytes))
-    by_found (Some x) = refl
-    by_found None = refl
 
 -- ---- one block
 
 -- the block of a run begins with its heading
-heading_of_run : (c : Checkpoint) (cs : List Checkpoint) → IsInLine (c ∷ cs) → length (c ∷ cs) < 2 ^ 64
+pub heading_of_run : (c : Checkpoint) (cs : List Checkpoint) → IsInLine (c ∷ cs) → length (c ∷ cs) < 2 ^ 64
     → heading_at (checkpoint_block (c ∷ cs)) ≡ Some (record { count = length (c ∷ cs); doc = c.doc_range.start; byte = c.byte_range.start }, flat_map step (c ∷ cs) ++ [])
 heading_of_run c cs h few = ap heading_at (sym (append-nil (checkpoint_block (c ∷ cs)))) ∙ heading_again c cs [] h few
-
--- the block of a run tells what is first in it
-pub block_sought : (most target : ℕ) (g : List Checkpoint) → 0 < length g → length g ≤ most → most ≤ 64 → IsInLine g
-    → sought_at most target (checkpoint_block g) ≡ Some (record { found = first_past g target; doc = docs_start g; doc_end = docs_end 0 g })
-unfolding sought_at
-block_sought most target [] some few small h = absurd (omega arith)
-block_sought most target (c ∷ cs) some few small h =
-    let head = heading_of_run c cs h (omega arith) in
-    let test : ltb most (length (c ∷ cs)) ≡ false = le-ltb _ _ few in
-    let steps : steps_at (length (c ∷ cs)) c.doc_range.start c.byte_range.start (flat_map step (c ∷ cs) ++ []) ≡ Some (c ∷ cs, []) = steps_again c.doc_range.start c.byte_range.start (c ∷ cs) [] h in
-    rw (head, test, steps) refl
 
 -- ---- a layer
 
 -- a layer of one run is one block
 pub one_block : (period : ℕ) (cs : List Checkpoint) → 0 < length cs → length cs ≤ period → layer_text period cs ≡ checkpoint_block cs
 one_block period cs some few = ap (flat_map checkpoint_block) (groups_one period cs some few) ∙ append-nil (checkpoint_block cs)
-
-pub top_sought : (period target : ℕ) (layer : List ℕ) (cs : List Checkpoint) (read : Option Sought) → period ≤ 64 → IsInLine cs → layer ≡ layer_text period cs → IsFoundAbove period target None cs
-    → read ≡ sought_at period target layer → read ≡ Some (record { found = first_past cs target; doc = docs_start cs; doc_end = docs_end 0 cs })
-top_sought period target layer cs read small h text above e =
-    e ∙ ap (sought_at period target) (text ∙ one_block period cs above.0 above.1) ∙ block_sought period target cs above.0 above.1 small h
 
 -- what a seek finds below a pointer
 pub record IsSoughtBelow (period target : ℕ) (layer : List ℕ) (p : Checkpoint) (cs : List Checkpoint) : Type 0 where
@@ -239,8 +172,3 @@ read_nothing read e f = nothing (e ∙ f)
   where
     nothing : {A : Type 0} {x : A} → None ≡ Some x → ⊥
     nothing e = cc
-
--- a part of bytes is of bytes
-bytes_front : (xs ys : List ℕ) → IsBytes (xs ++ ys) → IsBytes xs
-bytes_front [] ys h = tt
-bytes_front (x ∷ xs) ys h = (h.0, bytes_front xs ys h.1)

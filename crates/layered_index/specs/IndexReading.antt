@@ -6,7 +6,6 @@ use Rattle.layered_index.specs.declared.checkpoint.Checkpoint.{Checkpoint}
 use Rattle.layered_index.specs.Checkpoint.{IsInLine}
 use Rattle.layered_index.specs.Layers.{digit_count, index_part}
 use Rattle.layered_index.specs.LayerReading.{items, IsLayerBelow}
-use Rattle.layered_index.specs.Tables.{EndLists, no_ends, with_ends}
 
 -- this many numbers
 unfoldable pub numbers_at : ℕ → List ℕ → Option (List ℕ × List ℕ)
@@ -41,11 +40,6 @@ AreLayersBelow period above (t ∷ ts) = IsLayerBelow period above t × AreLayer
 abbrev pub last_items : List Checkpoint → List (List ℕ) → List Checkpoint
 last_items cs [] = cs
 last_items cs (t ∷ ts) = last_items (items 0 0 0 t) ts
-
--- where its checkpoints end
-abbrev pub last_ends : EndLists → List (List ℕ) → EndLists
-last_ends ends [] = ends
-last_ends ends (t ∷ ts) = last_ends (with_ends no_ends (items 0 0 0 t)) ts
 
 -- They are layers, from the top down, and as many as the last has digits.
 pub record AreLayers (period : ℕ) (ts : List (List ℕ)) : Type 0 where

@@ -3,7 +3,6 @@ pub mod Layers
 pub mod BlockReading
 pub mod LayerReading
 pub mod Covering
-pub mod Tables
 pub mod IndexReading
 pub mod Faults
 pub mod Building
@@ -13,3 +12,4 @@ pub mod Seeking
 pub mod Sought
 pub mod IndexHeads
 pub mod Rows
+pub mod Tallies

@@ -1,10 +1,14 @@
 -- The rows of a layer: where its checkpoints end.
-use Rattle.std.specs.Prelude.{◌≡◌, ℕ, zero, suc, ◌+◌, ◌-◌, ◌*◌, ◌<◌, ◌≤◌, List, [], ◌∷◌, length, map, reverse, Option, Some, None}
+use Rattle.std.specs.Prelude.{◌≡◌, ℕ, zero, suc, ◌+◌, ◌-◌, ◌*◌, ◌<◌, ◌≤◌, List, [], ◌∷◌, length, drop, map}
+use Rattle.std.specs.Prelude.{reverse, Option, Some, None}
 use Rattle.layered_index.specs.declared.checkpoint.Checkpoint.{Checkpoint}
+use Rattle.layered_index.specs.declared.lower_layers.LayerMarks.{LayerMarks}
+use Rattle.layered_index.specs.declared.outline.LayerEnd.{LayerEnd}
 use Rattle.layered_index.specs.declared.row.Row.{Row}
 use Rattle.layered_index.specs.declared.row.RowEnd.{RowEnd}
-use Rattle.layered_index.specs.Checkpoint.{first_past}
+use Rattle.layered_index.specs.Checkpoint.{checkpoint, first_past}
 use Rattle.layered_index.specs.Layers.{layer_text, layer_above, layers_from, digit_count}
+use Rattle.layered_index.specs.Sought.{layers_left}
 
 -- where the checkpoint of a row ends
 abbrev pub end_of : Row → RowEnd
@@ -56,7 +60,13 @@ pub record LayersBelow : Type 0 where
 abbrev pub lower_layers : ℕ → ℕ → List Checkpoint → LayersBelow
 lower_layers period height cs = record { period = period; height = height; texts = Some (lower_texts period height cs) }
 
--- These are the rows of the layer that is this many layers above a list. There are none where that is above the top one.
+-- These numbers say where the lowest layers of a list lie in the bytes of its index.
+abbrev pub AreMarksOf : ℕ → List ℕ → List Checkpoint → LayerMarks → Type 0
+AreMarksOf period bytes cs m = layers_left m.height m.place (drop m.ends bytes) (drop m.texts bytes)
+    ≡ Some (lower_texts period m.height cs)
+
+-- These are the rows of the layer that is this many layers above a list. There are none where that is above the top
+-- one.
 abbrev pub AreRowsAbove : ℕ → ℕ → List Checkpoint → List Row → Type 0
 AreRowsAbove period height cs [] = height ≡ digit_count period (length cs)
 AreRowsAbove period height cs (row ∷ rows) = AreRowsOf (layer_at period height cs) (row ∷ rows)
@@ -66,10 +76,26 @@ abbrev pub IsFoundIn : ℕ → ℕ → List Checkpoint → ℕ → Option Checkp
 IsFoundIn period height cs target None = height ≡ digit_count period (length cs)
 IsFoundIn period height cs target (Some p) = first_past (layer_at period height cs) target ≡ Some p
 
--- Of the layers of a list, this is the lowest that has no more checkpoints than there is room for, from the top down, and
--- this many layers lie below it. It is none where the top one has more.
+-- where the last of these begins in its bytes; the number given where there is none
+abbrev pub last_start : ℕ → List Checkpoint → ℕ
+last_start byte [] = byte
+last_start byte (c ∷ cs) = last_start c.byte_range.start cs
+
+-- how many these are, and where the last of them begins in its bytes
+abbrev pub HasEnd : List Checkpoint → LayerEnd → Type 0
+HasEnd cs end = (length cs ≡ end.count) × (last_start 0 cs ≡ end.start)
+
+-- Of the layers of a list, this is the lowest that has no more checkpoints than there is room for, from the top down,
+-- and this many layers lie below it. It is none where the top one has more.
 pub record IsDeepest (period room : ℕ) (cs : List Checkpoint) (height : ℕ) (layer : List Checkpoint) : Type 0 where
   pub within : height ≤ digit_count period (length cs)
   pub is : height < digit_count period (length cs) → layer ≡ layer_at period height cs
   pub none : height ≡ digit_count period (length cs) → layer ≡ []
+  pub fits : length layer ≤ room
   pub last : 0 < height → room < length (layer_at period (height - 1) cs)
+
+-- the checkpoints that end there, the first from this start on, and each other from the end of the one before it
+abbrev pub checkpoints_from : RowEnd → List RowEnd → List Checkpoint
+checkpoints_from start [] = []
+checkpoints_from start (end ∷ ends) =
+    checkpoint start.end_doc end.end_doc start.end_byte end.end_byte ∷ checkpoints_from end ends

@@ -1,28 +1,13 @@
 -- Seeks that decode one run of each layer: what a run tells, the layers that are left, and what was found above them.
-use Rattle.std.specs.Prelude.{◌≡◌, ℕ, zero, suc, ◌-◌, ◌^◌, ◌<◌, ◌≤◌, nat_lt, ◌==◌, if◌then◌else◌, List, [], ◌∷◌, length, take, drop}
-use Rattle.std.specs.Prelude.{Option, Some, None}
-use Rattle.std.specs.Option.{option_or}
+use Rattle.std.specs.Prelude.{◌≡◌, ℕ, zero, suc, ◌-◌, ◌^◌, ◌<◌, ◌≤◌, nat_lt, if◌then◌else◌, List, [], ◌∷◌, ◌++◌}
+use Rattle.std.specs.Prelude.{length, take, drop, Option, Some, None}
 use Rattle.store_base.specs.VInt.{◌>>=◌, number_below}
 use Rattle.layered_index.specs.declared.checkpoint.Checkpoint.{Checkpoint}
-use Rattle.layered_index.specs.declared.run_seek.Sought.{Sought}
 use Rattle.layered_index.specs.Checkpoint.{docs_end, IsInLine, checkpoint_block, first_past}
 use Rattle.layered_index.specs.Layers.{docs_start, layer_above}
-use Rattle.layered_index.specs.BlockReading.{step_at, steps_at, heading_at}
+use Rattle.layered_index.specs.BlockReading.{step_at, heading_at}
 use Rattle.layered_index.specs.IndexReading.{numbers_at, texts_at}
 use Rattle.layered_index.specs.LayerReading.{items}
-
--- Of checkpoints that are read after others, in which this was found: the first past the target, where the last one's
--- documents end, and the bytes after them.
-abbrev pub sought_from : ℕ → Option Checkpoint → ℕ → Option (List Checkpoint × List ℕ)
-    → Option (Option Checkpoint × ℕ × List ℕ)
-sought_from target found doc read = read >>= λ x. Some (option_or found (first_past x.0 target), docs_end doc x.0, x.1)
-
--- the same of a block that fills the bytes and has at most `most` checkpoints
-unfoldable pub sought_at : ℕ → ℕ → List ℕ → Option Sought
-sought_at most target bytes =
-    heading_at bytes >>= λ h. if nat_lt most h.0.count then None else
-    (sought_from target None h.0.doc (steps_at h.0.count h.0.doc h.0.byte h.1) >>= λ s. if length s.2 == 0 then Some
-    (record { found = s.0; doc = h.0.doc; doc_end = s.1 }) else None)
 
 -- The first of these checkpoints past the target, if all up to it can be read; or none.
 unfoldable pub scanned : ℕ → ℕ → ℕ → ℕ → List ℕ → Option (Option Checkpoint)
@@ -89,6 +74,11 @@ next_layer place ends texts =
 -- the bytes after these numbers
 abbrev pub after_numbers : ℕ → List ℕ → Option (List ℕ)
 after_numbers count bytes = numbers_at count bytes >>= λ ns. Some ns.1
+
+-- These bytes stand at the end of others.
+pub record IsRest (bytes rest : List ℕ) : Type 0 where
+  pub front : List ℕ
+  pub parts : bytes ≡ front ++ rest
 
 -- an index whose layers were not decoded, as its callers see it
 pub record IndexBytes : Type 0 where

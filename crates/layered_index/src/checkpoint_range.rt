@@ -3,14 +3,14 @@ ghost use Rattle.std.specs.Prelude.{◌≡◌, ◌≤◌, length, slice_range};
 ghost use Rattle.std.specs.Iterator.{YieldsFirst, item_count};
 
 use crate::checkpoint::Checkpoint;
-use crate::tables::Tables;
+use crate::skip_index::SkipIndex;
 use std::marker::Model;
 use std::ops::Range;
 
 /// Gives the checkpoints at some places of an index, and takes no memory.
 #[derive(Drop)]
 pub struct CheckpointRange<'a> {
-    tables: &'a Tables,
+    index: &'a SkipIndex,
     next: usize,
     end: usize,
 }
@@ -21,18 +21,18 @@ impl<'a> Model for CheckpointRange<'a> {
 
     ghost Value = { List Checkpoint };
 
-    ghost view = { λ a. slice_range a.tables.now a.next a.end };
+    ghost view = { λ a. slice_range a.index.now.checkpoints a.next a.end };
 
-    ghost invariant = { λ a. a.end ≤ length a.tables.now };
+    ghost invariant = { λ a. a.end ≤ length a.index.now.checkpoints };
 }
 
 impl<'a> CheckpointRange<'a> {
-    pub(crate) fn new(tables: &'a Tables, places: Range<usize>) -> CheckpointRange<'a>
-        requires { places.end ≤ length tables.now }
-        ensures { result ≡ slice_range tables.now places.start places.end }
+    pub(crate) fn new(index: &'a SkipIndex, places: Range<usize>) -> CheckpointRange<'a>
+        requires { places.end ≤ length index.now.checkpoints }
+        ensures { result ≡ slice_range index.now.checkpoints places.start places.end }
     {
         CheckpointRange {
-            tables,
+            index,
             next: places.start,
             end: places.end,
         }
@@ -51,7 +51,7 @@ impl<'a> Iterator for CheckpointRange<'a> {
         if self.next >= self.end {
             return None;
         }
-        let checkpoint = self.tables.get(self.next);
+        let checkpoint = self.index.at(self.next);
         self.next += 1;
         Some(checkpoint)
     }

@@ -1,25 +1,22 @@
 //! Seeks in the bytes of an index: no table is made of them, and nothing takes memory.
-ghost use Rattle.std.specs.Prelude.{◌≡◌, ◌<◌, ◌≤◌, ◌+◌, ◌-◌, ◌*◌, List, length, take, drop};
-ghost use Rattle.std.specs.Prelude.{Ok, IfOk, IfErr, IfSome, IsOkAnd, None};
+ghost use Rattle.std.specs.Prelude.{◌≡◌, ◌<◌, ◌≤◌, ◌+◌, ◌*◌, List, length};
+ghost use Rattle.std.specs.Prelude.{Ok, Some, None, IfOk, IfErr, IfSome, IsOkAnd};
 ghost use Rattle.std.specs.Option.{option_map};
 ghost use Rattle.store_base.specs.Counts.{raised};
 ghost use Rattle.layered_index.specs.declared.checkpoint.Checkpoint.{Checkpoint};
-ghost use Rattle.layered_index.specs.Checkpoint.{docs_end, first_past};
+ghost use Rattle.layered_index.specs.Checkpoint.{docs_end, first_past, IsInLine, checkpoint_block};
 ghost use Rattle.layered_index.specs.Layers.{digit_count};
 ghost use Rattle.layered_index.specs.IndexReading.{IsIndexPart, HasIndex};
-ghost use Rattle.layered_index.specs.Rows.{AreRowsAbove, IsDeepest, layer_at, lower_layers};
+ghost use Rattle.layered_index.specs.Rows.{AreMarksOf, lower_texts, lower_layers};
 ghost use Rattle.layered_index.specs.LayerReading.{items};
-ghost use Rattle.layered_index.specs.Sought.{next_layer, after_numbers, from_pointer, past_on, AreOn};
-ghost use Rattle.layered_index.specs.Sought.{IsPast, IndexBytes};
+ghost use Rattle.layered_index.specs.Sought.{layers_left, next_layer, after_numbers, past_on};
+ghost use Rattle.layered_index.specs.Sought.{IsPast, IsRest, IndexBytes};
 
 use crate::checkpoint::Checkpoint;
 use crate::layer_cursor::LayerCursor;
 use crate::looks::Steps;
-use crate::lower_layers::LowerLayers;
-use crate::outline::{Outline, fill, fit};
-use crate::row::Row;
-use crate::row_guide::write_guides;
-use crate::run_seek::{seek_block, seek_layer};
+use crate::lower_layers::{LayerMarks, LowerLayers};
+use crate::run_reading::{heading_front, step_front};
 use std::marker::Model;
 use store_base::{DocId, StoreError, first_number};
 
@@ -30,11 +27,11 @@ pub(crate) const MOST_LAYERS: u64 = 64;
 /// layer, from the top layer down, and checks the bytes that it decodes. No call takes memory.
 #[derive(Drop)]
 pub struct IndexSlice<'a> {
-    period: u8,
-    bytes: &'a [u8],
-    count: usize,
-    ends: &'a [u8],
-    texts: &'a [u8],
+    pub(crate) period: u8,
+    pub(crate) bytes: &'a [u8],
+    pub(crate) count: usize,
+    pub(crate) ends: &'a [u8],
+    pub(crate) texts: &'a [u8],
 }
 
 impl<'a> Model for IndexSlice<'a> {
@@ -83,22 +80,35 @@ pub(crate) fn next_layer<'a>(
     Some((layer, end, more_ends, more))
 }
 
-// The bytes of a layer from the run on that a pointer points to; without a pointer from the first run on.
-#[inline(always)]
-fn from_pointer<'a>(layer: &'a [u8], pointer: &Option<Checkpoint>) -> &'a [u8]
-    ensures { result.now ≡ from_pointer layer.now pointer.now }
-{
-    match pointer {
-        None => layer,
-        Some(pointer) => &layer[pointer.byte_range.start.min(layer.len())..],
-    }
+// The last layer that was passed over, if any; and of those after it where they begin, the ends and the bytes.
+#[derive(Drop)]
+struct Passed<'a> {
+    last: &'a [u8],
+    place: usize,
+    ends: &'a [u8],
+    texts: &'a [u8],
 }
 
-// What a descent found in the bottom layer, and the bytes of that layer from the run on in which it found it.
-#[derive(Drop)]
-struct Descent<'a> {
-    found: Option<Checkpoint>,
-    run: &'a [u8],
+// Where the documents of a block end that fills the bytes and has at most `most` checkpoints.
+fn block_docs_end(most: usize, bytes: &[u8]) -> Option<DocId>
+    requires { most ≤ 64 }
+    ensures { (cs : List Checkpoint) → IsInLine cs → 0 < length cs → length cs ≤ most
+        → bytes.now ≡ checkpoint_block cs → result ≡ Some (docs_end 0 cs) }
+{
+    let (heading, steps) = heading_front(bytes)?;
+    if most < heading.count {
+        return None;
+    }
+    let mut rest = steps;
+    let mut doc_end = heading.doc;
+    let mut byte_end = heading.byte;
+    for _ in 0..heading.count {
+        let (checkpoint, after) = step_front(false, doc_end, byte_end, rest)?;
+        doc_end = checkpoint.doc_range.end;
+        byte_end = checkpoint.byte_range.end;
+        rest = after;
+    }
+    if rest.is_empty() { Some(doc_end) } else { None }
 }
 
 impl<'a> IndexSlice<'a> {
@@ -135,47 +145,15 @@ impl<'a> IndexSlice<'a> {
         self.period
     }
 
-    // The first checkpoint whose documents end past the target. It decodes one run of each layer up to what
-    // it seeks, and counts each checkpoint that it decodes.
-    #[inline(always)]
-    fn descend(&self, target: DocId, steps: &mut Steps) -> Result<Descent<'a>, StoreError>
-        ensures answer { (cs : List Checkpoint) → IsIndexPart self.now.period self.now.bytes cs
-            → IsOkAnd result (λ d. d.found ≡ first_past cs target) }
-        ensures run { (cs : List Checkpoint) → IsIndexPart self.now.period self.now.bytes cs
-            → IfOk result (λ d. AreOn cs target d.found d.run.now) }
-        ensures most { (cs : List Checkpoint) → IsIndexPart self.now.period self.now.bytes cs
-            → steps.new ≤ steps.old + self.now.period * digit_count self.now.period (length cs) }
-        ensures always { steps.new ≤ steps.old + self.now.period * 64 }
-        ensures past { IfOk result (λ d. IfSome d.found (IsPast target)) }
-        ensures least { IfOk result (λ d. IfSome d.found (λ _. raised steps.old 1 ≤ steps.new)) }
-        ensures refused { IfErr result (λ e. e ≡ StoreError.BadIndex) }
+    // All its layers, with nothing above them.
+    fn whole(&self) -> LowerLayers<'a>
+        ensures whole { (cs : List Checkpoint) → IsIndexPart self.now.period self.now.bytes cs
+            → (result ≡ lower_layers result.period result.height cs)
+            × (result.height ≡ digit_count result.period (length cs)) }
+        ensures period { result.period ≡ self.now.period }
+        ensures few { result.height ≤ 64 }
     {
-        let period = self.period as usize;
-        let mut found: Option<Checkpoint> = None;
-        let mut run = self.texts;
-        let mut place = 0;
-        let mut ends = self.ends;
-        let mut texts = self.texts;
-        for _ in 0..self.count {
-            let Some((layer, end, more_ends, more)) = next_layer(place, ends, texts) else {
-                return Err(StoreError::BadIndex);
-            };
-            let Some(next) = seek_layer(period, target, layer, &found, steps) else {
-                return Err(StoreError::BadIndex);
-            };
-            run = from_pointer(layer, &found);
-            if next.is_none() {
-                return Ok(Descent { found: None, run });
-            }
-            found = next;
-            place = end;
-            ends = more_ends;
-            texts = more;
-        }
-        if !texts.is_empty() {
-            return Err(StoreError::BadIndex);
-        }
-        Ok(Descent { found, run })
+        LowerLayers::new(self.period, self.count, 0, self.ends, self.texts)
     }
 
     /// The first checkpoint whose documents end past the target, or `None` where there is none. It returns `BadIndex`
@@ -187,7 +165,7 @@ impl<'a> IndexSlice<'a> {
         ensures refused { IfErr result (λ e. e ≡ StoreError.BadIndex) }
     {
         let mut steps = Steps::new();
-        Ok(self.descend(target, &mut steps)?.found)
+        Ok(self.whole().descend(None, target, &mut steps)?.found)
     }
 
     /// The first checkpoint whose documents end past the target, and a cursor over those after it; or `None` where
@@ -203,7 +181,7 @@ impl<'a> IndexSlice<'a> {
         ensures refused { IfErr result (λ e. e ≡ StoreError.BadIndex) }
     {
         let mut steps = Steps::new();
-        let descent = self.descend(target, &mut steps)?;
+        let descent = self.whole().descend(None, target, &mut steps)?;
         let Some(found) = descent.found else {
             return Ok(None);
         };
@@ -232,96 +210,63 @@ impl<'a> IndexSlice<'a> {
         ensures least { IfOk result (λ found. IfSome found (λ _. raised steps.old 1 ≤ steps.new)) }
         ensures refused { IfErr result (λ e. e ≡ StoreError.BadIndex) }
     {
-        Ok(self.descend(target, steps)?.found)
+        Ok(self.whole().descend(None, target, steps)?.found)
     }
 
-    /// The lowest layers of the index, as many as the height says. It passes over the layers above them, and decodes
-    /// nothing but where each ends. It returns `BadIndex` where there are fewer layers.
-    pub fn below(&self, height: usize) -> Result<LowerLayers<'a>, StoreError>
-        ensures answer { (cs : List Checkpoint) → IsIndexPart self.now.period self.now.bytes cs
+    // Passes over the layers above the lowest ones, which are as many as the height says. It decodes nothing but where
+    // each ends.
+    fn pass_to(&self, height: usize) -> Result<Passed<'a>, StoreError>
+        ensures left { (cs : List Checkpoint) → IsIndexPart self.now.period self.now.bytes cs
             → height ≤ digit_count self.now.period (length cs)
-            → IsOkAnd result (λ lower. lower ≡ lower_layers self.now.period height cs) }
-        ensures height { IfOk result (λ lower. lower.height ≡ height) }
-        ensures period { IfOk result (λ lower. lower.period ≡ self.now.period) }
+            → IsOkAnd result (λ p. layers_left height p.place p.ends.now p.texts.now
+            ≡ Some (lower_texts self.now.period height cs)) }
+        ensures bottom { (cs : List Checkpoint) → IsIndexPart self.now.period self.now.bytes cs
+            → height ≡ 0 → IfOk result (λ p. items 0 0 0 p.last.now ≡ cs) }
+        ensures ends { IfOk result (λ p. IsRest self.now.bytes p.ends.now) }
+        ensures texts { IfOk result (λ p. IsRest self.now.bytes p.texts.now) }
         ensures refused { IfErr result (λ e. e ≡ StoreError.BadIndex) }
     {
         if self.count < height {
             return Err(StoreError::BadIndex);
         }
         let mut left = self.count;
+        let mut last: &'a [u8] = &self.texts[..0];
         let mut place = 0;
         let mut ends = self.ends;
         let mut texts = self.texts;
         while left > height {
-            let Some((_, end, more_ends, more)) = next_layer(place, ends, texts) else {
-                return Err(StoreError::BadIndex);
-            };
-            left -= 1;
-            place = end;
-            ends = more_ends;
-            texts = more;
-        }
-        Ok(LowerLayers::new(self.period, height, place, ends, texts))
-    }
-
-    // The bytes of the lowest layer that has no more checkpoints than there is room for, from the top down, and how
-    // many layers lie below it. It is none where the top layer has more.
-    fn deepest(&self, room: usize) -> Result<(usize, &'a [u8]), StoreError>
-        ensures answer { (cs : List Checkpoint) → IsIndexPart self.now.period self.now.bytes cs
-            → IsOkAnd result (λ x. IsDeepest self.now.period room cs x.0 (items 0 0 0 x.1.now)) }
-        ensures fits { IfOk result (λ x. length (items 0 0 0 x.1.now) ≤ room) }
-        ensures few { IfOk result (λ x. x.0 ≤ 64) }
-        ensures refused { IfErr result (λ e. e ≡ StoreError.BadIndex) }
-    {
-        let mut deepest: &'a [u8] = &self.texts[..0];
-        let mut left = self.count;
-        let mut place = 0;
-        let mut ends = self.ends;
-        let mut texts = self.texts;
-        while left > 0 {
             let Some((layer, end, more_ends, more)) = next_layer(place, ends, texts) else {
                 return Err(StoreError::BadIndex);
             };
-            if !fit(LayerCursor::new(layer), room) {
-                return Ok((left, deepest));
-            }
             left -= 1;
-            deepest = layer;
+            last = layer;
             place = end;
             ends = more_ends;
             texts = more;
         }
-        if !texts.is_empty() {
-            return Err(StoreError::BadIndex);
-        }
-        Ok((0, deepest))
+        Ok(Passed {
+            last,
+            place,
+            ends,
+            texts,
+        })
     }
 
-    /// Fills the front of the rows with those of the lowest layer that has no more checkpoints than there are rows, and
-    /// says how many it filled and how many layers lie below that layer. It fills none where the top layer has more. It
-    /// decodes the layers from the top down to that one, and no more checkpoints of the next than there are rows.
-    ///
-    /// It returns `BadIndex` where the layers aren't where the index says they end, and then the rows stay.
-    pub fn outline(&self, rows: &mut [Row]) -> Result<Outline, StoreError>
+    /// Where the lowest layers lie, as many as the height says: `LowerLayers::at` finds them by it. It passes over the
+    /// layers above them, and decodes nothing but where each ends. It returns `BadIndex` where there are fewer layers.
+    pub fn marks(&self, height: usize) -> Result<LayerMarks, StoreError>
         ensures answer { (cs : List Checkpoint) → IsIndexPart self.now.period self.now.bytes cs
-            → IsOkAnd result (λ o. AreRowsAbove self.now.period o.height cs (take o.rows rows.new)) }
-        ensures deepest { (cs : List Checkpoint) → IsIndexPart self.now.period self.now.bytes cs
-            → IfOk result (λ o. 0 < o.height
-            → length rows.old < length (layer_at self.now.period (o.height - 1) cs)) }
-        ensures height { (cs : List Checkpoint) → IsIndexPart self.now.period self.now.bytes cs
-            → IfOk result (λ o. o.height ≤ digit_count self.now.period (length cs)) }
-        ensures few { IfOk result (λ o. o.height ≤ 64) }
-        ensures room { IfOk result (λ o. o.rows ≤ length rows.old) }
-        ensures rest { IfOk result (λ o. drop o.rows rows.new ≡ drop o.rows rows.old) }
-        ensures refused { IfErr result (λ e. (e ≡ StoreError.BadIndex) × (rows.new ≡ rows.old)) }
+            → height ≤ digit_count self.now.period (length cs)
+            → IsOkAnd result (λ m. AreMarksOf self.now.period self.now.bytes cs m) }
+        ensures height { IfOk result (λ m. m.height ≡ height) }
+        ensures refused { IfErr result (λ e. e ≡ StoreError.BadIndex) }
     {
-        let _ = &self.period;
-        let (height, layer) = self.deepest(rows.len())?;
-        let count = fill(LayerCursor::new(layer), rows);
-        write_guides(&mut rows[..count]);
-        Ok(Outline {
-            rows: count,
+        let passed = self.pass_to(height)?;
+        Ok(LayerMarks {
             height,
+            place: passed.place,
+            ends: self.bytes.len() - passed.ends.len(),
+            texts: self.bytes.len() - passed.texts.len(),
         })
     }
 
@@ -337,11 +282,10 @@ impl<'a> IndexSlice<'a> {
         let Some((top, _, _, _)) = next_layer(0, self.ends, self.texts) else {
             return Err(StoreError::BadIndex);
         };
-        let mut steps = Steps::new();
-        let Some(sought) = seek_block(self.period as usize, 0, top, &mut steps) else {
+        let Some(end) = block_docs_end(self.period as usize, top) else {
             return Err(StoreError::BadIndex);
         };
-        Ok(sought.doc_end)
+        Ok(end)
     }
 
     /// The checkpoints, in order. It finds the bottom layer at once; the cursor decodes a checkpoint when it is asked
@@ -351,22 +295,10 @@ impl<'a> IndexSlice<'a> {
             → IsOkAnd result (λ cursor. cursor ≡ cs) }
         ensures refused { IfErr result (λ e. e ≡ StoreError.BadIndex) }
     {
-        let mut bottom: &'a [u8] = &self.texts[..0];
-        let mut place = 0;
-        let mut ends = self.ends;
-        let mut texts = self.texts;
-        for _ in 0..self.count {
-            let Some((layer, end, more_ends, more)) = next_layer(place, ends, texts) else {
-                return Err(StoreError::BadIndex);
-            };
-            bottom = layer;
-            place = end;
-            ends = more_ends;
-            texts = more;
-        }
-        if !texts.is_empty() {
+        let passed = self.pass_to(0)?;
+        if !passed.texts.is_empty() {
             return Err(StoreError::BadIndex);
         }
-        Ok(LayerCursor::new(bottom))
+        Ok(LayerCursor::new(passed.last))
     }
 }

@@ -1,24 +1,20 @@
 //! Walking over the layers of an index, each of which is decoded once.
-ghost use Rattle.std.specs.Prelude.{◌≡◌, ◌≤◌, ◌<◌, ◌+◌, ◌/◌, ◌↔◌, ℕ, List, [], ◌∷◌, length};
-ghost use Rattle.std.specs.Prelude.{IsTrue, IsSome, IfOk, MatchResult};
-ghost use Rattle.std.specs.List.{concat};
+ghost use Rattle.std.specs.Prelude.{◌≡◌, ◌≤◌, ◌<◌, ◌+◌, ◌^◌, ◌↔◌, List, [], ◌∷◌, length};
+ghost use Rattle.std.specs.Prelude.{IsTrue, IsSome, IfSome, MatchResult};
+ghost use Rattle.std.specs.Option.{option_map};
 ghost use Rattle.layered_index.specs.declared.checkpoint.Checkpoint.{Checkpoint};
 ghost use Rattle.layered_index.specs.Checkpoint.{checkpoint};
 ghost use Rattle.layered_index.specs.Layers.{digit_count};
 ghost use Rattle.layered_index.specs.BlockReading.{steps_at, ends_of, run_at};
 ghost use Rattle.layered_index.specs.LayerReading.{items, may_stand, len_from, pointers_at, ArePointers, IsLayerBelow};
-ghost use Rattle.layered_index.specs.Tables.{no_ends, with_ends};
-ghost use Rattle.layered_index.specs.IndexReading.{AreLayersBelow, last_ends};
-ghost use Rattle.layered_index.specs.Faults.{standing_from, PassedTo, BreaksAt, HasFault};
-ghost use Rattle.layered_index.specs.Refusal.{AnswersAs, BreaksOnlyUnless, RefusedOnlyUnless};
+ghost use Rattle.layered_index.specs.Tallies.{no_tally, kept};
+ghost use Rattle.layered_index.specs.Faults.{standing_from, PassedTo, BreaksAt};
 
 use crate::checkpoint::Checkpoint;
-use crate::fault::{LayerFault, ReadFault, Refusal};
-use crate::index_fault::fault_in;
 use crate::layer_cursor::LayerCursor;
+use crate::row::Row;
 use crate::run_reading::{Heading, heading_front, step_front};
-use crate::tables::Ends;
-use store_base::OwnedBytes;
+use crate::tally::Tally;
 
 /// A block of a layer in short: its heading, and where its last checkpoint ends.
 #[derive(Clone, Copy)]
@@ -72,31 +68,32 @@ pub(crate) fn digit_count(base: usize, n: usize) -> usize
     digit_count(base, n / base) + 1
 }
 
-// Keeps where the checkpoints of a block end. Answers where the last does, and what follows it.
+// Keeps the checkpoints of a block. Answers where the last ends, and what follows it.
 fn keep_steps<'a>(
     uneven: bool,
     heading: Heading,
     bytes: &'a [u8],
-    ends: &mut Ends,
-) -> Result<(u32, usize, &'a [u8]), ReadFault>
-    ensures read { AnswersAs (λ x. (x.0, x.1, x.2.now)) result (ends_of heading.doc heading.byte
-        (steps_at heading.count heading.doc heading.byte bytes.now)) }
-    ensures kept { IfOk result (λ x. with_ends ends.new (items 0 0 0 x.2.now)
-        ≡ with_ends ends.old (items heading.count heading.doc heading.byte bytes.now)) }
+    tally: &mut Tally,
+    rows: &mut [Row],
+) -> Option<(u32, usize, &'a [u8])>
+    requires { tally.old.count + length bytes.now < 2 ^ 64 }
+    ensures read { option_map (λ x. (x.0, x.1, x.2.now)) result ≡ ends_of heading.doc heading.byte
+        (steps_at heading.count heading.doc heading.byte bytes.now) }
+    ensures kept { IfSome result (λ x. kept (tally.new, rows.new) (items 0 0 0 x.2.now)
+        ≡ kept (tally.old, rows.old) (items heading.count heading.doc heading.byte bytes.now)) }
+    ensures few { IfSome result (λ x. tally.new.count + length x.2.now ≤ tally.old.count + length bytes.now) }
 {
     let mut rest = bytes;
     let mut doc_end = heading.doc;
     let mut byte_end = heading.byte;
     for _ in 0..heading.count {
-        let Some((checkpoint, after)) = step_front(uneven, doc_end, byte_end, rest) else {
-            return Err(ReadFault::Malformed);
-        };
-        ends.push(&checkpoint)?;
+        let (checkpoint, after) = step_front(uneven, doc_end, byte_end, rest)?;
+        tally.add(&checkpoint, rows);
         doc_end = checkpoint.doc_range.end;
         byte_end = checkpoint.byte_range.end;
         rest = after;
     }
-    Ok((doc_end, byte_end, rest))
+    Some((doc_end, byte_end, rest))
 }
 
 // The block at the front in short, and what follows it.
@@ -104,16 +101,17 @@ fn keep_steps<'a>(
 fn run_front<'a>(
     uneven: bool,
     bytes: &'a [u8],
-    ends: &mut Ends,
-) -> Result<(Run, &'a [u8]), ReadFault>
-    ensures read { AnswersAs (λ x. (x.0, x.1.now)) result (run_at bytes.now) }
-    ensures kept { IfOk result (λ x. 0 < x.0.count → with_ends ends.new (items 0 0 0 x.1.now)
-        ≡ with_ends ends.old (items 0 0 0 bytes.now)) }
+    tally: &mut Tally,
+    rows: &mut [Row],
+) -> Option<(Run, &'a [u8])>
+    requires { tally.old.count + length bytes.now < 2 ^ 64 }
+    ensures read { option_map (λ x. (x.0, x.1.now)) result ≡ run_at bytes.now }
+    ensures kept { IfSome result (λ x. 0 < x.0.count → kept (tally.new, rows.new) (items 0 0 0 x.1.now)
+        ≡ kept (tally.old, rows.old) (items 0 0 0 bytes.now)) }
+    ensures few { IfSome result (λ x. tally.new.count + length x.1.now ≤ tally.old.count + length bytes.now) }
 {
-    let Some((heading, steps)) = heading_front(bytes) else {
-        return Err(ReadFault::Malformed);
-    };
-    let (doc_end, byte_end, rest) = keep_steps(uneven, heading, steps, ends)?;
+    let (heading, steps) = heading_front(bytes)?;
+    let (doc_end, byte_end, rest) = keep_steps(uneven, heading, steps, tally, rows)?;
     let run = Run {
         count: heading.count,
         doc: heading.doc,
@@ -121,7 +119,7 @@ fn run_front<'a>(
         doc_end,
         byte_end,
     };
-    Ok((run, rest))
+    Some((run, rest))
 }
 
 // Whether a run may be here, with `bytes_left` bytes after it: only the last one is not full.
@@ -169,23 +167,25 @@ fn none_left(above: Option<LayerCursor<'_>>) -> bool
     }
 }
 
-// Walks over the runs of a layer, where the first is to begin as the heading says, and keeps where
-// their checkpoints end.
+// Walks over the runs of a layer, where the first is to begin as the heading says, and keeps their checkpoints. An
+// error is the byte of the first run that breaks a rule.
 fn walk_runs(
     period: usize,
     heading: Heading,
     text: &[u8],
     mut above: Option<LayerCursor<'_>>,
-    ends: &mut Ends,
-) -> Result<(), LayerFault>
+    tally: &mut Tally,
+    rows: &mut [Row],
+) -> Result<(), usize>
+    requires { tally.old.count + length text.now < 2 ^ 64 }
     ensures { MatchResult result
         (λ _. IsSome (len_from period heading.doc heading.byte text.now)
         × ArePointers above.entry (pointers_at 0 text.now)
-        × (with_ends ends.new [] ≡ with_ends ends.old (items 0 0 0 text.now)))
-        (BreaksOnlyUnless (IsSome (len_from period heading.doc heading.byte text.now)
-        × ArePointers above.entry (pointers_at 0 text.now))
-        (λ byte. (byte ≤ length text.now)
-        × PassedTo above.entry (standing_from period heading.doc heading.byte 0 text.now) 0 byte)) }
+        × (kept (tally.new, rows.new) [] ≡ kept (tally.old, rows.old) (items 0 0 0 text.now)))
+        (λ byte. (IsSome (len_from period heading.doc heading.byte text.now)
+        × ArePointers above.entry (pointers_at 0 text.now) → ⊥)
+        × (byte ≤ length text.now)
+        × PassedTo above.entry (standing_from period heading.doc heading.byte 0 text.now) 0 byte) }
 {
     let mut rest = text;
     let mut place = 0;
@@ -193,15 +193,14 @@ fn walk_runs(
     let mut byte_end = heading.byte;
     let mut lengths = RunLengths::new(text);
     while !rest.is_empty() {
-        let (run, after) = match run_front(lengths.uneven, rest, ends) {
-            Ok(read) => read,
-            Err(fault) => return Err(fault.at(place)),
+        let Some((run, after)) = run_front(lengths.uneven, rest, tally, rows) else {
+            return Err(place);
         };
         let end = place + (rest.len() - after.len());
         if !may_stand(period, doc_end, byte_end, &run, after.len())
             || !next_points(&mut above, &run, place, end)
         {
-            return Err(LayerFault::Broken(place));
+            return Err(place);
         }
         doc_end = run.doc_end;
         byte_end = run.byte_end;
@@ -209,59 +208,27 @@ fn walk_runs(
         place = end;
         rest = after;
     }
-    if none_left(above) {
-        Ok(())
-    } else {
-        Err(LayerFault::Broken(place))
-    }
+    if none_left(above) { Ok(()) } else { Err(place) }
 }
 
-// Walks over a layer. What is kept is where its checkpoints end, in place of what was kept before.
-fn walk_layer(
+/// Walks over a layer, and keeps its checkpoints: it writes their rows over the front of these, as many as there is
+/// room for. An error is the byte of the layer at which the first run begins that breaks a rule.
+pub(crate) fn walk_layer(
     period: usize,
     text: &[u8],
     above: Option<LayerCursor<'_>>,
-    ends: &mut Ends,
-) -> Result<(), LayerFault>
+    rows: &mut [Row],
+) -> Result<Tally, usize>
     ensures { MatchResult result
-        (λ _. IsLayerBelow period above.entry text.now
-        × (ends.new ≡ with_ends no_ends (items 0 0 0 text.now)))
-        (BreaksOnlyUnless (IsLayerBelow period above.entry text.now)
-        (λ byte. (byte ≤ length text.now) × BreaksAt period above.entry text.now byte)) }
+        (λ tally. IsLayerBelow period above.entry text.now
+        × ((tally, rows.new) ≡ kept (no_tally, rows.old) (items 0 0 0 text.now)))
+        (λ byte. (IsLayerBelow period above.entry text.now → ⊥)
+        × (byte ≤ length text.now) × BreaksAt period above.entry text.now byte) }
 {
-    let most = ends.len().saturating_mul(period).min(text.len() / 2);
-    ends.start_over(most)?;
     let Some((heading, _)) = heading_front(text) else {
-        return Err(LayerFault::Broken(0));
+        return Err(0);
     };
-    walk_runs(period, heading, text, above, ends)
-}
-
-/// Walks over layers from the top down, the last ones of an index of this many bytes. What is kept in the
-/// end is where the checkpoints of the last one end.
-pub(crate) fn walk_down(
-    period: usize,
-    len: usize,
-    layers: &[OwnedBytes],
-    ends: &mut Ends,
-) -> Result<(), Refusal>
-    requires { length (concat layers.now) ≤ len }
-    ensures { MatchResult result
-        (λ _. AreLayersBelow period None layers.now
-        × (ends.new ≡ last_ends ends.old layers.now))
-        (RefusedOnlyUnless (AreLayersBelow period None layers.now) (HasFault period len None layers.now)) }
-{
-    let mut above = None;
-    for (place, layer) in layers.iter().enumerate() {
-        let text = layer.as_slice();
-        match walk_layer(period, text, above, ends) {
-            Ok(()) => {}
-            Err(LayerFault::OutOfMemory) => return Err(Refusal::OutOfMemory),
-            Err(LayerFault::Broken(byte)) => {
-                return Err(Refusal::Broken(fault_in(len, &layers[place..], byte)));
-            }
-        }
-        above = Some(LayerCursor::new(text));
-    }
-    Ok(())
+    let mut tally = Tally::NONE;
+    walk_runs(period, heading, text, above, &mut tally, rows)?;
+    Ok(tally)
 }

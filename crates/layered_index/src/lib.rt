@@ -1,11 +1,11 @@
 //! The layered skip index of a store: checkpoints, their blocks and layers, and the seek.
 #![tactic(auto)]
 
+pub mod check;
 pub mod checkpoint;
 pub mod checkpoint_block;
 pub mod checkpoint_range;
 mod fault;
-mod guide;
 pub mod index_fault;
 pub mod index_slice;
 pub mod laws;
@@ -22,9 +22,9 @@ mod run_seek;
 mod short_number;
 pub mod skip_index;
 pub mod skip_index_builder;
-mod split;
-mod tables;
+mod tally;
 
+pub use check::{CheckedIndex, find_fault};
 pub use checkpoint::{CHECKPOINT_PERIOD, Checkpoint, USUAL_PERIOD};
 pub use checkpoint_block::CheckpointBlock;
 pub use checkpoint_range::CheckpointRange;
@@ -32,7 +32,7 @@ pub use index_fault::IndexFault;
 pub use index_slice::IndexSlice;
 pub use layer_cursor::LayerCursor;
 pub use looks::{Looks, Steps, seek_near, seek_over};
-pub use lower_layers::LowerLayers;
+pub use lower_layers::{LayerMarks, LowerLayers};
 pub use outline::Outline;
 pub use row::{Row, RowEnd};
 pub use row_guide::write_guides;

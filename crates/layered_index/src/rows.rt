@@ -1,5 +1,6 @@
 //! The seek in the rows of a layer, from a guess on.
 ghost use Rattle.std.specs.Prelude.{◌≡◌, ◌≤◌, ◌+◌, ◌-◌, ◌*◌, ℕ, List, length, map, slice_get};
+ghost use Rattle.store_base.specs.Counts.{raised};
 ghost use Rattle.layered_index.specs.declared.checkpoint.Checkpoint.{Checkpoint};
 ghost use Rattle.layered_index.specs.Checkpoint.{IsInLineFrom, docs_end, first_past};
 ghost use Rattle.layered_index.specs.Layers.{digit_count};
@@ -144,6 +145,7 @@ pub fn seek_rows(rows: &[Row], target: DocId, steps: &mut Steps) -> Option<Check
     ensures answer { (cs : List Checkpoint) → AreRowsOf cs rows.now → IsInLineFrom 0 0 cs
         → result ≡ first_past cs target }
     ensures most { (p : ℕ) → 2 ≤ p → steps.new ≤ steps.old + rows_looked_at p (length rows.now) }
+    ensures least { raised steps.old 1 ≤ steps.new }
     ensures more { steps.old ≤ steps.new }
 {
     let near = guess(rows, target);

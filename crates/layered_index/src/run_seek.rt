@@ -1,95 +1,15 @@
 //! Seeks in one checkpoint block of a layer, in the bytes of the layer.
-ghost use Rattle.std.specs.Prelude.{◌≡◌, ◌≤◌, ◌+◌, List, [], ◌∷◌, Some, None, IfSome};
-ghost use Rattle.std.specs.Option.{option_map, option_or};
+ghost use Rattle.std.specs.Prelude.{◌≡◌, ◌≤◌, ◌+◌, List, Some, None, IfSome};
 ghost use Rattle.store_base.specs.Counts.{raised};
 ghost use Rattle.layered_index.specs.declared.checkpoint.Checkpoint.{Checkpoint};
 ghost use Rattle.layered_index.specs.Checkpoint.{IsInLine, first_past};
 ghost use Rattle.layered_index.specs.Layers.{layer_text};
-ghost use Rattle.layered_index.specs.BlockReading.{steps_at};
-ghost use Rattle.layered_index.specs.Sought.{sought_from, sought_at, scanned, scanned_at};
-ghost use Rattle.layered_index.specs.Sought.{IsPast, IsRunAt, IsFoundAbove};
+ghost use Rattle.layered_index.specs.Sought.{scanned, scanned_at, IsPast, IsRunAt, IsFoundAbove};
 
 use crate::checkpoint::Checkpoint;
 use crate::looks::Steps;
 use crate::run_reading::{Heading, heading_front, step_front};
 use store_base::DocId;
-
-/// What a seek in a whole block found: the first checkpoint whose documents end past the target, if there is one, and
-/// the documents of the block.
-#[derive(Drop)]
-pub(crate) struct Sought {
-    pub found: Option<Checkpoint>,
-    pub doc: DocId,
-    pub doc_end: DocId,
-}
-
-// The checkpoint that was found before, or the next one if its documents end past the target.
-#[inline(always)]
-fn found_next(found: Option<Checkpoint>, target: DocId, next: Checkpoint) -> Option<Checkpoint>
-    ensures { result ≡ option_or found (first_past (next ∷ []) target) }
-{
-    if found.is_none() && target < next.doc_range.end {
-        Some(next)
-    } else {
-        found
-    }
-}
-
-// Decodes `heading.count` checkpoints: the first past the target, where the last one's documents end, and the bytes
-// after them.
-#[inline(always)]
-fn seek_steps(
-    heading: Heading,
-    target: DocId,
-    bytes: &[u8],
-) -> Option<(Option<Checkpoint>, DocId, &[u8])>
-    ensures read { option_map (λ x. (x.0, x.1, x.2.now)) result ≡ sought_from target None heading.doc
-        (steps_at heading.count heading.doc heading.byte bytes.now) }
-    ensures some { IfSome result (λ x. IfSome x.0 (λ _. 1 ≤ heading.count)) }
-{
-    let mut found = None;
-    let mut rest = bytes;
-    let mut doc_end = heading.doc;
-    let mut byte_end = heading.byte;
-    for _ in 0..heading.count {
-        let (checkpoint, after) = step_front(false, doc_end, byte_end, rest)?;
-        doc_end = checkpoint.doc_range.end;
-        byte_end = checkpoint.byte_range.end;
-        rest = after;
-        found = found_next(found, target, checkpoint);
-    }
-    Some((found, doc_end, rest))
-}
-
-// Decodes a whole block, which fills the bytes and has at most `most` checkpoints, and counts each.
-#[inline(always)]
-#[tactic(auto, unfolding(crate::specs::Sought::sought_at))]
-pub(crate) fn seek_block(
-    most: usize,
-    target: DocId,
-    bytes: &[u8],
-    steps: &mut Steps,
-) -> Option<Sought>
-    ensures read { result ≡ sought_at most target bytes.now }
-    ensures counted { steps.new ≤ steps.old + most }
-    ensures more { steps.old ≤ steps.new }
-    ensures least { IfSome result (λ s. IfSome s.found (λ _. raised steps.old 1 ≤ steps.new)) }
-{
-    let (heading, rest) = heading_front(bytes)?;
-    if most < heading.count {
-        return None;
-    }
-    steps.add(heading.count as u64);
-    let (found, doc_end, rest) = seek_steps(heading, target, rest)?;
-    if !rest.is_empty() {
-        return None;
-    }
-    Some(Sought {
-        found,
-        doc: heading.doc,
-        doc_end,
-    })
-}
 
 // Decodes `heading.count` checkpoints up to the first past the target, and counts each: that one, or none.
 #[inline(always)]

@@ -1,86 +1,144 @@
 //! The layered skip index of a store.
-ghost use Rattle.std.specs.Prelude.{◌≡◌, ◌≤◌, ◌<◌, ◌+◌, ◌*◌, ℕ, [], length, slice_get, slice_range};
-ghost use Rattle.std.specs.Prelude.{IfOk, IfErr, MatchResult, IsNone, IsSome, IfSome};
+ghost use Rattle.std.specs.Prelude.{◌≡◌, ◌≤◌, ◌<◌, ◌+◌, ◌*◌, ℕ, List, length, slice_get, slice_range};
+ghost use Rattle.std.specs.Prelude.{IfOk, IfErr, Some};
 ghost use Rattle.store_base.specs.Counts.{raised};
-ghost use Rattle.layered_index.specs.Checkpoint.{IsInLine, first_past};
+ghost use Rattle.layered_index.specs.declared.checkpoint.Checkpoint.{Checkpoint};
+ghost use Rattle.layered_index.specs.Checkpoint.{IsInLine, IsInLineFrom, first_past};
 ghost use Rattle.layered_index.specs.Covering.{covered_to};
 ghost use Rattle.layered_index.specs.Layers.{Index, digit_count, index_part};
-ghost use Rattle.layered_index.specs.LayerReading.{items};
-ghost use Rattle.layered_index.specs.IndexReading.{last_items, IsIndexPart, HasIndex};
-ghost use Rattle.layered_index.specs.Tables.{no_ends, with_ends};
-ghost use Rattle.layered_index.specs.Faults.{IsFirstFault};
-ghost use Rattle.layered_index.specs.Refusal.{RefusesOnlyUnless, RefusedOnlyUnless};
+ghost use Rattle.layered_index.specs.IndexReading.{IsIndexPart, HasIndex};
+ghost use Rattle.layered_index.specs.Refusal.{RefusesOnlyUnless};
+ghost use Rattle.layered_index.specs.Rows.{AreRowsOf, ends_in, start_in, checkpoints_from};
 
 use crate::checkpoint::{CHECKPOINT_PERIOD, Checkpoint, USUAL_PERIOD};
 use crate::checkpoint_range::CheckpointRange;
-use crate::fault::Refusal;
-use crate::index_fault::IndexFault;
+use crate::index_slice::IndexSlice;
 use crate::layer_cursor::LayerCursor;
-use crate::layers::{digit_count, walk_down};
-use crate::looks::{Steps, seek_near, seek_over};
-use crate::split::split;
-use crate::tables::{Ends, TableLooks, Tables};
+use crate::looks::{Looks, Steps, seek_near, seek_over};
+use crate::row::{Row, RowEnd};
+use crate::row_guide::{guess, write_guides};
 use std::alloc::Global;
 use std::marker::Model;
 use std::ops::Range;
 use store_base::{DocId, NoMemory, OwnedBytes, StoreError};
 
-/// The checkpoints of a store, found by document. It keeps the bytes of the bottom layer and where
-/// each checkpoint ends.
+/// The checkpoints of a store, found by document. It keeps the bytes of the index, and a row for each checkpoint.
 #[derive(Drop)]
 pub struct SkipIndex {
     period: u8,
-    bottom: OwnedBytes,
-    tables: Tables,
+    source: OwnedBytes,
+    covered: Option<(DocId, usize)>,
+    start: RowEnd,
+    rows: Vec<Row>,
 }
 
 impl Model for SkipIndex {
     ghost use Rattle.std.specs.Prelude.{◌≡◌, ◌≤◌};
+    ghost use Rattle.layered_index.specs.Covering.{covered_to};
+    ghost use Rattle.layered_index.specs.IndexReading.{IsIndexPart};
     ghost use Rattle.layered_index.specs.Layers.{Index};
-    ghost use Rattle.layered_index.specs.LayerReading.{items};
+    ghost use Rattle.layered_index.specs.Rows.{ends_in, checkpoints_from};
 
     ghost Value = { Index };
 
-    ghost view = { λ a. record { period = a.period; checkpoints = a.tables } };
+    ghost view = { λ a. record { period = a.period; checkpoints = checkpoints_from a.start (ends_in a.rows.items) } };
 
-    ghost invariant = { λ a. (2 ≤ a.period) × (a.period ≤ 64) × (items 0 0 0 a.bottom ≡ a.tables) };
+    ghost invariant = { λ a. let cs = checkpoints_from a.start (ends_in a.rows.items) in
+        (2 ≤ a.period) × (a.period ≤ 64) × IsIndexPart a.period a.source cs × (a.covered ≡ covered_to 0 0 cs) };
 }
 
-// The last of the layers, or no bytes.
-fn bottom_of(source: &OwnedBytes, mut layers: Vec<OwnedBytes>) -> Result<OwnedBytes, NoMemory>
-    ensures { IfOk result (λ b. items 0 0 0 b ≡ last_items [] layers.items) }
+// Where the first of these checkpoints begins.
+fn start_of(mut checkpoints: LayerCursor<'_>) -> RowEnd
+    requires { IsInLine checkpoints }
+    ensures { IsInLineFrom result.end_doc result.end_byte checkpoints.entry }
 {
-    match layers.pop() {
-        None => source.slice(0..0),
-        Some(bottom) => Ok(bottom),
+    match checkpoints.next() {
+        None => RowEnd::ZERO,
+        Some(first) => RowEnd {
+            end_doc: first.doc_range.start,
+            end_byte: first.byte_range.start,
+        },
     }
 }
 
-// The bottom layer of an index, and where its checkpoints end.
-fn bottom_layer(
+// Where the checkpoint at a position begins, the first of which begins at `start`.
+#[inline(always)]
+fn start_at(start: RowEnd, rows: &[Row], at: usize) -> RowEnd
+    requires { at ≤ length rows.now }
+    ensures { result ≡ start_in start (ends_in rows.now) at }
+{
+    match at.checked_sub(1) {
+        Some(before) => rows[before].end(),
+        None => start,
+    }
+}
+
+// The checkpoint at a position.
+#[inline(always)]
+fn checkpoint_at(start: RowEnd, rows: &[Row], at: usize) -> Checkpoint
+    requires { at < length rows.now }
+    ensures { slice_get (checkpoints_from start (ends_in rows.now)) at ≡ Some result }
+{
+    let start = start_at(start, rows, at);
+    let end = rows[at].end();
+    Checkpoint {
+        doc_range: start.end_doc..end.end_doc,
+        byte_range: start.end_byte..end.end_byte,
+    }
+}
+
+// The rows of these checkpoints, of which there are `count`.
+fn rows_of(alloc: Global, checkpoints: LayerCursor<'_>, count: usize) -> Result<Vec<Row>, NoMemory>
+    ensures { IfOk result (λ rows. AreRowsOf checkpoints.entry rows.items) }
+{
+    let mut rows = Vec::with_capacity(alloc, count)?;
+    for checkpoint in checkpoints {
+        rows.push(Row::new(RowEnd {
+            end_doc: checkpoint.doc_range.end,
+            end_byte: checkpoint.byte_range.end,
+        }))?;
+    }
+    Ok(rows)
+}
+
+// Where the checkpoints of an index begin, and their rows with guides; there are `count` of them.
+fn read_rows(
     alloc: Global,
-    source: &OwnedBytes,
-    bytes: &[u8],
-    period: usize,
-) -> Result<(OwnedBytes, Ends), Refusal>
-    requires source { bytes.now ≡ source.now }
-    requires least { 2 ≤ period }
-    requires most { period ≤ 64 }
-    ensures { MatchResult result
-        (λ x. IsIndexPart period source.now (items 0 0 0 x.0)
-        × (x.1 ≡ with_ends no_ends (items 0 0 0 x.0)))
-        (RefusedOnlyUnless (HasIndex period source.now) (IsFirstFault period source.now)) }
+    index: &IndexSlice<'_>,
+    count: usize,
+) -> Result<(RowEnd, Vec<Row>), StoreError>
+    requires { HasIndex index.now.period index.now.bytes }
+    ensures read { (cs : List Checkpoint) → IsIndexPart index.now.period index.now.bytes cs
+        → IfOk result (λ x. checkpoints_from x.0 (ends_in x.1.items) ≡ cs) }
+    ensures refused { IfErr result (λ e. e ≡ StoreError.Memory) }
 {
-    let layers = match split(alloc, source, bytes) {
-        Ok(layers) => layers,
-        Err(fault) => return Err(fault.in_list()),
-    };
-    let mut ends = Ends::new(alloc);
-    walk_down(period, bytes.len(), &layers, &mut ends)?;
-    if digit_count(period, ends.len()) != layers.len() {
-        return Err(Refusal::Broken(IndexFault::OF_LIST));
+    let start = start_of(index.checkpoints()?);
+    let mut rows = rows_of(alloc, index.checkpoints()?, count)?;
+    write_guides(&mut rows);
+    Ok((start, rows))
+}
+
+// Looks at the checkpoints of an index, counted.
+#[derive(Drop)]
+struct IndexLooks<'a> {
+    index: &'a SkipIndex,
+    count: u64,
+}
+
+impl<'a> Looks for IndexLooks<'a> {
+    ghost list = { λ s. s.index.now.checkpoints };
+
+    ghost looks = { λ s. s.count };
+
+    fn len(&self) -> usize {
+        let index = self.index;
+        index.rows.len()
     }
-    Ok((bottom_of(source, layers)?, ends))
+
+    fn look(&mut self, i: usize) -> Checkpoint {
+        self.count = self.count.saturating_add(1);
+        self.index.at(i)
+    }
 }
 
 impl SkipIndex {
@@ -107,33 +165,18 @@ impl SkipIndex {
             × IsIndexPart period source index.checkpoints) }
         ensures refused { IfErr result (RefusesOnlyUnless (HasIndex period source)) }
     {
-        let (bottom, ends) = bottom_layer(alloc, &source, source.as_slice(), period as usize)?;
-        let tables = Tables::new(alloc, bottom.as_slice(), ends)?;
+        let index = IndexSlice::new(source.as_slice(), period)?;
+        let Ok(checked) = index.check(&mut []) else {
+            return Err(StoreError::BadIndex);
+        };
+        let (start, rows) = read_rows(alloc, &index, checked.count)?;
         Ok(SkipIndex {
             period,
-            bottom,
-            tables,
+            source,
+            covered: checked.covered,
+            start,
+            rows,
         })
-    }
-
-    /// Where the bytes first break a rule of an index whose full blocks have `period` checkpoints. It is
-    /// `None` exactly if they are the index of a list in line.
-    pub fn find_fault(
-        alloc: Global,
-        source: &OwnedBytes,
-        period: u8,
-    ) -> Result<Option<IndexFault>, NoMemory>
-        requires least { 2 ≤ period }
-        requires most { period ≤ 64 }
-        ensures sound { IfOk result (λ fault. IsNone fault → HasIndex period source.now) }
-        ensures broken { IfOk result (λ fault. IsSome fault → HasIndex period source.now → ⊥) }
-        ensures first { IfOk result (λ fault. IfSome fault (IsFirstFault period source.now)) }
-    {
-        match bottom_layer(alloc, source, source.as_slice(), period as usize) {
-            Ok(_) => Ok(None),
-            Err(Refusal::Broken(fault)) => Ok(Some(fault)),
-            Err(Refusal::OutOfMemory) => Err(NoMemory),
-        }
     }
 
     /// How many checkpoints its full blocks have.
@@ -162,11 +205,11 @@ impl SkipIndex {
             ≤ steps.old + p * digit_count p (length self.now.checkpoints) }
         ensures least { 0 < length self.now.checkpoints → raised steps.old 1 ≤ steps.new }
     {
-        let mut looks = TableLooks {
-            tables: &self.tables,
+        let mut looks = IndexLooks {
+            index: self,
             count: 0,
         };
-        let found = seek_near(&mut looks, target, self.tables.guess(target));
+        let found = seek_near(&mut looks, target, guess(&self.rows, target));
         steps.add(looks.count);
         found
     }
@@ -179,8 +222,8 @@ impl SkipIndex {
             ≤ steps.old + p * digit_count p (length self.now.checkpoints) }
         ensures least { 0 < length self.now.checkpoints → raised steps.old 1 ≤ steps.new }
     {
-        let mut looks = TableLooks {
-            tables: &self.tables,
+        let mut looks = IndexLooks {
+            index: self,
             count: 0,
         };
         let found = seek_over(&mut looks, target);
@@ -193,31 +236,53 @@ impl SkipIndex {
     pub fn covered_to(&self) -> Option<(DocId, usize)>
         ensures { result ≡ covered_to 0 0 self.now.checkpoints }
     {
-        self.tables.covered_to()
+        self.covered
     }
 
     /// The checkpoints, in order.
     pub fn checkpoints(&self) -> LayerCursor<'_>
         ensures { result ≡ self.now.checkpoints }
     {
-        LayerCursor::new(self.bottom.as_slice())
+        let Ok(index) = IndexSlice::new(self.source.as_slice(), self.period) else {
+            unreachable!()
+        };
+        let Ok(checkpoints) = index.checkpoints() else {
+            unreachable!()
+        };
+        checkpoints
+    }
+
+    /// How many bytes the index has.
+    pub fn byte_len(&self) -> usize
+        ensures { result ≡ length (index_part self.now.period self.now.checkpoints) }
+    {
+        self.source.len()
     }
 
     /// How many checkpoints there are.
     pub fn len(&self) -> usize
         ensures { result ≡ length self.now.checkpoints }
     {
-        self.tables.len()
+        self.rows.len()
+    }
+
+    // The checkpoint at this place of the list.
+    #[inline(always)]
+    pub(crate) fn at(&self, place: usize) -> Checkpoint
+        requires { place < length self.now.checkpoints }
+        ensures { slice_get self.now.checkpoints place ≡ Some result }
+    {
+        checkpoint_at(self.start, self.rows.as_slice(), place)
     }
 
     /// The checkpoint at this place of the list, if the list is so long. Nothing is sought.
     pub fn get(&self, place: usize) -> Option<Checkpoint>
         ensures { result ≡ slice_get self.now.checkpoints place }
     {
-        if place >= self.tables.len() {
+        if place >= self.rows.len() {
             return None;
         }
-        Some(self.tables.get(place))
+        Some(self.at(place))
     }
 
     /// The checkpoints at these places of the list, in order.
@@ -225,6 +290,6 @@ impl SkipIndex {
         requires { places.end ≤ length self.now.checkpoints }
         ensures { result ≡ slice_range self.now.checkpoints places.start places.end }
     {
-        CheckpointRange::new(&self.tables, places)
+        CheckpointRange::new(self, places)
     }
 }

@@ -1,4 +1,3 @@
-pub mod TableLemmas
 pub mod TableViewLemmas
 pub mod PlacesLemmas
 pub mod FirstRefusalLemmas

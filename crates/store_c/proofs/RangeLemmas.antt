@@ -85,8 +85,8 @@ tail_refused file_len tail seen id e is one h file t = (
 )
 
 -- what the end of a file refuses is refused of the whole
-pub unopened : (file_len : ℕ) (tail : List ℕ) (e : StoreError) → RefusesTail file_len tail e → (file : List ℕ) → IsTailOf file file_len tail → RefusesUnopened file (number_of e)
-unopened file_len tail e h file t = inl (record { error = e; is = refl; finds = h.finds file t; no_store = h.no_store file t })
+pub unopened : (file_len : ℕ) (tail : List ℕ) (e : StoreError) → RefusesTail file_len tail e → (e ≡ Memory → ⊥) → (file : List ℕ) → IsTailOf file file_len tail → RefusesUnopened file (number_of e)
+unopened file_len tail e h kept file t = inl (record { error = e; is = refl; finds = h.finds file t; kept = kept; no_store = h.no_store file t })
 
 -- a seek finds no damaged document
 pub not_damaged : (id : ℕ) (e : StoreError) → (e ≡ InvalidArgument id) ⊎ (e ≡ BadIndex) → number_of e ≡ 7 → ⊥

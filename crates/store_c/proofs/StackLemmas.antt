@@ -1,18 +1,18 @@
 -- The caller's memory of a writer once a store is put after it.
 use Rattle.std.proofs.Common.{◌≡◌, ℕ, ◌+◌, ◌-◌, ◌^◌, ◌<◌, ◌≤◌, List, [], ◌∷◌, ◌++◌, length, take, map, refl, sym, ap, ◌∙◌, subst, arith, append_assoc, length-append}
-use Rattle.std.proofs.lemmas.List.{append-nil, map-append, take-map, drop-map, length-map, length-take, length-take-le, take-append-drop, take_all}
+use Rattle.std.proofs.lemmas.List.{append-nil, map-append, take-map, drop-map, length-map, length-take, length-take-le, take-append-drop}
 use Rattle.std.proofs.lemmas.Slice.{take-put_mid}
 use Rattle.std.proofs.Math.Seq.{take-append_seam}
 use Rattle.std.specs.Prelude.{drop}
 use borrow.Rule.Slice.PartMut.{put_mid}
 use Rattle.std.specs.List.{AllByRecursion, concat}
 use Rattle.layered_index.specs.declared.checkpoint.Checkpoint.{Checkpoint}
-use Rattle.layered_index.specs.Checkpoint.{IsInLineFrom}
-use Rattle.store_format.specs.Footer.{version_number}
-use Rattle.store_format.specs.StoreFile.{StoreBlock, IsStoreBlock, IsStore, AreBlocks, data_of, docs_in, checkpoints_of, checkpoints_from}
+use Rattle.layered_index.specs.Checkpoint.{IsInLineFrom, IsWithinLimits}
+use Rattle.layered_index.proofs.LineLemmas.{in_line-split}
+use Rattle.store_format.specs.StoreFile.{StoreBlock, IsStoreBlock, AreBlocks, data_of, docs_in, checkpoints_of, checkpoints_from}
 use Rattle.store_format.proofs.StoreLemmas.{length-checkpoints, data_of-append, data_fits, AreBlocks-append, checkpoints_from-append, checkpoints_in_line_from}
 use Rattle.store_format.proofs.BlockLemmas.{length-block}
-use Rattle.store_reader.specs.Viewing.{Viewing, count_in}
+use Rattle.store_format.specs.Slots.{slots}
 use Rattle.docstore.specs.BlockOutput.{BlockOutput, with_blocks}
 use Rattle.docstore.specs.Stacking.{shifted, with_store}
 use Rattle.docstore.specs.Writer.{Writing, blocks_of}
@@ -22,10 +22,8 @@ use Rattle.layered_index.specs.declared.row.Row.{Row}
 use Rattle.layered_index.specs.declared.row.RowEnd.{RowEnd}
 use Rattle.store_c.specs.declared.writer.Writer.{Writer}
 use Rattle.layered_index.specs.Rows.{end_of, ends_in, ends_of, start_in}
-use Rattle.store_c.specs.Calls.{ends_after, with_front}
-use Rattle.store_c.specs.Writing.{memory, Holds, PutsBlocks, IsOther, HasNumbersWith}
+use Rattle.store_c.specs.Writing.{memory, ends_after, Holds, PutsBlocks, IsOther, HasNumbersWith}
 use Rattle.layered_index.proofs.RowLemmas.{zero_row}
-use Rattle.store_c.proofs.TableLemmas.{length-front}
 use Rattle.store_c.proofs.MemoryLemmas.{has_finished, open_at, none_pending}
 
 -- ---- blocks after others
@@ -44,6 +42,14 @@ ends_joined start (c ∷ cs) = ap (λ (bs : List RowEnd). ends_after start c ∷
 ends_there : (start : RowEnd) (cs : List Checkpoint) (bs : List StoreBlock) → cs ≡ checkpoints_of bs → map (ends_after start) cs ≡ map ends_of (checkpoints_from start.end_doc start.end_byte bs)
 ends_there start cs bs is = ends_joined start cs ∙ ap (map ends_of) (shifted_after start.end_doc start.end_byte cs bs is)
 
+-- each of the checkpoints keeps within the limits
+pub limits_of : (docs bytes : ℕ) (done rest all : List Checkpoint) (c : Checkpoint) → done ++ c ∷ rest ≡ all → IsInLineFrom docs bytes (map (shifted docs bytes) all)
+    → IsWithinLimits (shifted docs bytes c)
+limits_of docs bytes done rest all c is line =
+    let parts : map (shifted docs bytes) all ≡ map (shifted docs bytes) done ++ shifted docs bytes c ∷ map (shifted docs bytes) rest =
+    ap (map (shifted docs bytes)) (sym is) ∙ map-append (shifted docs bytes) done (c ∷ rest) in
+    (in_line-split docs bytes (map (shifted docs bytes) done) (shifted docs bytes c ∷ map (shifted docs bytes) rest) (subst (IsInLineFrom docs bytes) parts line)).1.2
+
 -- ---- a writer without an open block
 
 pub without_documents : (w : Writing) (bs : List StoreBlock) → w.pending ≡ [] → with_store w bs ≡ record w { pending = []; output = with_blocks w.output bs }
@@ -60,8 +66,8 @@ rows_fit writer table short starts text w h =
     omega (arith, h.blocks, ap length h.rows, length-checkpoints 0 0 w.output.finished, size, length-take (length w.output.finished) (ends_in table), length-map table end_of)
 
 -- the documents after those of the rows can be numbered
-pub numbers_with : (view : Viewing) (writer : Writer) (table : List Row) (start : RowEnd) → writer.docs ≡ 0 → start ≡ start_in zero_row (ends_in table) writer.blocks
-    → start.end_doc + count_in view < 2 ^ 32 → HasNumbersWith view writer table
+pub numbers_with : (more : List StoreBlock) (writer : Writer) (table : List Row) (start : RowEnd) → writer.docs ≡ 0 → start ≡ start_in zero_row (ends_in table) writer.blocks
+    → start.end_doc + length (slots more) < 2 ^ 32 → HasNumbersWith more writer table
 numbers_with view writer table start closed from few starts text w h =
     let m = memory writer starts table in
     let doc = ap (λ (b : RowEnd). b.end_doc) (from ∙ open_at m w (has_finished m text w h)) in
@@ -70,14 +76,14 @@ numbers_with view writer table start closed from few starts text w h =
 -- ---- the table with more rows
 
 -- the rows so far, and those of more blocks written after them
-rows_written : (table mid ys rs : List RowEnd) (from k n : ℕ) → from ≤ length table → ys ≡ with_front rs mid → length rs ≤ length ys → n ≡ from + length rs
+rows_written : (table ys rs : List RowEnd) (from k n count : ℕ) → from ≤ length table → take count ys ≡ rs → count ≤ length ys → n ≡ from + count
     → take n (put_mid from k table ys) ≡ take from table ++ rs
-rows_written table mid ys rs from k n fits is room size =
+rows_written table ys rs from k n count fits is room size =
     let all = put_mid from k table ys in
-    let rest = drop (length rs) mid in
+    let rest = drop count ys in
     let end = from + length ys in
-    let short : length rs ≤ length mid = omega (arith, ap length is, length-front rs mid) in
-    let parts : ys ≡ rs ++ rest = is ∙ ap (λ (xs : List RowEnd). xs ++ rest) (take_all (length mid) rs short) in
+    let few : length rs ≡ count = omega (arith, ap length is, length-take-le count ys room) in
+    let parts : ys ≡ rs ++ rest = sym (take-append-drop count ys) ∙ ap (λ (xs : List RowEnd). xs ++ rest) is in
     let cut : all ≡ (take from table ++ rs) ++ (rest ++ drop end all) =
     sym (take-append-drop end all)
     ∙ ap (λ (xs : List RowEnd). xs ++ drop end all)
@@ -97,16 +103,16 @@ ends_written from k table ys =
 abbrev pub with_more : Writer → ℕ → Writer
 with_more writer count = record { block_size = writer.block_size; blocks = writer.blocks + count; docs = writer.docs; bytes = writer.bytes }
 
-module _ (writer : Writer) (table mid ys : List Row) (k count : ℕ) (start : RowEnd) (cs : List Checkpoint) (view : Viewing)
-    (store : IsStore view.period view.file (version_number view.version) view.store)
-    (are : cs ≡ checkpoints_of view.store) (closed : writer.docs ≡ 0) (fits : writer.blocks ≤ length table) (from : start ≡ start_in zero_row (ends_in table) writer.blocks)
-    (few : count_in view ≤ 4294967295 - start.end_doc) where
+module _ (writer : Writer) (table ys : List Row) (k count : ℕ) (start : RowEnd) (cs : List Checkpoint) (more : List StoreBlock)
+    (are_blocks : AreBlocks more)
+    (are : cs ≡ checkpoints_of more) (closed : writer.docs ≡ 0) (fits : writer.blocks ≤ length table) (from : start ≡ start_in zero_row (ends_in table) writer.blocks)
+    (few : length (slots more) ≤ 4294967295 - start.end_doc) where
   -- what is known of a writer of this memory
   record Follows (text : List ℕ) (w : Writing) : Type 0 where
     pub none : w.pending ≡ []
     pub doc : start.end_doc ≡ docs_in w.output.finished
     pub byte : start.end_byte ≡ length (data_of w.output.finished)
-    pub blocks : AreBlocks (w.output.finished ++ view.store)
+    pub blocks : AreBlocks (w.output.finished ++ more)
 
   following : (starts text : List ℕ) (w : Writing) → Holds (memory writer starts table) text w → Follows text w
   following starts text w h =
@@ -118,35 +124,34 @@ module _ (writer : Writer) (table mid ys : List Row) (k count : ℕ) (start : Ro
         none = none_pending w.pending (sym h.docs ∙ closed);
         doc = doc;
         byte = ap (λ (b : RowEnd). b.end_byte) at;
-        blocks = AreBlocks-append w.output.finished view.store finished store.blocks.each (omega (arith, doc, few, length-slots view.store, finished.few_docs));
+        blocks = AreBlocks-append w.output.finished more finished are_blocks.each (omega (arith, doc, few, length-slots more, finished.few_docs));
       }
 
   -- its blocks have their place in the file
-  pub has_place : 18446744073709551615 - start.end_byte < length (data_of view.store) → IsOther writer table
+  pub has_place : 18446744073709551615 - start.end_byte < length (data_of more) → IsOther writer table
   has_place large starts text w h =
       let b = following starts text w h in
       omega (
         arith,
         b.byte,
-        data_fits (w.output.finished ++ view.store) b.blocks,
-        ap length (data_of-append w.output.finished view.store),
-        length-append (data_of w.output.finished) (data_of view.store),
+        data_fits (w.output.finished ++ more) b.blocks,
+        ap length (data_of-append w.output.finished more),
+        length-append (data_of w.output.finished) (data_of more),
       )
 
-  pub stacked : ends_in ys ≡ with_front (map (ends_after start) cs) (ends_in mid) → count ≡ length cs → count ≤ length ys
-      → PutsBlocks view writer table (with_more writer count) (put_mid writer.blocks k table ys)
+  pub stacked : take (length cs) (ends_in ys) ≡ map (ends_after start) cs → count ≡ length cs → count ≤ length ys
+      → PutsBlocks more writer table (with_more writer count) (put_mid writer.blocks k table ys)
   stacked is counted room starts text w h =
       let b = following starts text w h in
       let bs = w.output.finished in
       let rs = map (ends_after start) cs in
       let doc : start.end_doc ≡ 0 + docs_in bs = omega (arith, b.doc) in
       let byte : start.end_byte ≡ 0 + length (data_of bs) = omega (arith, b.byte) in
-      let rows : rs ≡ map ends_of (checkpoints_from (0 + docs_in bs) (0 + length (data_of bs)) view.store) =
-      ends_there start cs view.store are ∙ (λ i. map ends_of (checkpoints_from (doc i) (byte i) view.store)) in
-      let size : length rs ≡ count = length-map cs (ends_after start) ∙ sym counted in
-      let blocks : length cs ≡ length view.store = ap length are ∙ length-checkpoints 0 0 view.store in
+      let rows : rs ≡ map ends_of (checkpoints_from (0 + docs_in bs) (0 + length (data_of bs)) more) =
+      ends_there start cs more are ∙ (λ i. map ends_of (checkpoints_from (doc i) (byte i) more)) in
+      let blocks : length cs ≡ length more = ap length are ∙ length-checkpoints 0 0 more in
       let held = h.sound.output.works h.works in
-      subst (Holds (memory (with_more writer count) starts (put_mid writer.blocks k table ys)) (text ++ data_of view.store)) (sym (without_documents w view.store b.none)) (record {
+      subst (Holds (memory (with_more writer count) starts (put_mid writer.blocks k table ys)) (text ++ data_of more)) (sym (without_documents w more b.none)) (record {
         sound = record {
           ids = omega (arith, b.blocks.few_docs);
           light = omega arith;
@@ -155,8 +160,8 @@ module _ (writer : Writer) (table mid ys : List Row) (k count : ℕ) (start : Ro
             most = h.sound.output.most;
             ids = b.blocks.few_docs;
             works = λ _. record {
-              written = ap (λ (xs : List ℕ). xs ++ data_of view.store) held.written ∙ append_assoc w.output.before (data_of bs) (data_of view.store)
-                  ∙ ap (λ (xs : List ℕ). w.output.before ++ xs) (sym (data_of-append bs view.store));
+              written = ap (λ (xs : List ℕ). xs ++ data_of more) held.written ∙ append_assoc w.output.before (data_of bs) (data_of more)
+                  ∙ ap (λ (xs : List ℕ). w.output.before ++ xs) (sym (data_of-append bs more));
               blocks = b.blocks;
             };
           };
@@ -168,13 +173,13 @@ module _ (writer : Writer) (table mid ys : List Row) (k count : ℕ) (start : Ro
         docs = closed;
         bytes = omega (arith, h.bytes, ap (λ (docs : List (List ℕ)). length (concat docs)) b.none);
         starts = refl;
-        blocks = omega (arith, h.blocks, counted, blocks, length-append bs view.store);
-        rows = ap (take (length (bs ++ view.store))) (ends_written writer.blocks k table ys)
-            ∙ rows_written (ends_in table) (ends_in mid) (ends_in ys) rs writer.blocks k (length (bs ++ view.store)) (omega (arith, fits, length-map table end_of)) is
-            (omega (arith, size, room, length-map ys end_of)) (omega (arith, size, counted, blocks, h.blocks, length-append bs view.store))
+        blocks = omega (arith, h.blocks, counted, blocks, length-append bs more);
+        rows = ap (take (length (bs ++ more))) (ends_written writer.blocks k table ys)
+            ∙ rows_written (ends_in table) (ends_in ys) rs writer.blocks k (length (bs ++ more)) (length cs) (omega (arith, fits, length-map table end_of)) is
+            (omega (arith, counted, room, length-map ys end_of)) (omega (arith, blocks, h.blocks, length-append bs more))
             ∙ (λ i. (ap (λ (n : ℕ). take n (ends_in table)) h.blocks ∙ h.rows) i ++ rows i)
-            ∙ sym (map-append ends_of (checkpoints_of bs) (checkpoints_from (0 + docs_in bs) (0 + length (data_of bs)) view.store))
-            ∙ ap (map ends_of) (sym (checkpoints_from-append 0 0 bs view.store));
-        written = (λ i. (h.written ∙ ap (λ (docs : List (List ℕ)). data_of bs ++ concat docs) b.none ∙ append-nil (data_of bs)) i ++ data_of view.store)
-            ∙ sym (data_of-append bs view.store) ∙ sym (append-nil (data_of (bs ++ view.store)));
+            ∙ sym (map-append ends_of (checkpoints_of bs) (checkpoints_from (0 + docs_in bs) (0 + length (data_of bs)) more))
+            ∙ ap (map ends_of) (sym (checkpoints_from-append 0 0 bs more));
+        written = (λ i. (h.written ∙ ap (λ (docs : List (List ℕ)). data_of bs ++ concat docs) b.none ∙ append-nil (data_of bs)) i ++ data_of more)
+            ∙ sym (data_of-append bs more) ∙ sym (append-nil (data_of (bs ++ more)));
       })

@@ -1,14 +1,13 @@
 -- With which number a call that writes is refused: that of the first cause, exactly.
-use Rattle.std.proofs.Common.{◌≡◌, ◌↔◌, ◌⊎◌, inl, inr, ℕ, ◌+◌, ◌-◌, ◌^◌, ◌<◌, ◌≤◌, List, length, sym, ap, ◌∙◌, arith, subst}
+use Rattle.std.proofs.Common.{◌≡◌, ◌↔◌, inl, inr, ℕ, ◌+◌, ◌-◌, ◌^◌, ◌<◌, ◌≤◌, List, length, refl, sym, ◌∙◌, arith, subst}
 use Rattle.std.specs.Prelude.{◌≢◌, replicate, Err}
 use Rattle.std.proofs.lemmas.List.{length-replicate}
 use Rattle.store_base.specs.Outcome.{number_of}
 use Rattle.store_base.specs.declared.error.StoreError.{StoreError}
-use Rattle.store_base.specs.declared.error.StoreError.TheVariants.{Memory as OutOfMemory}
-use Rattle.store_format.specs.StoreFile.{checkpoints_of}
+use Rattle.store_format.specs.Slots.{slots}
+use Rattle.store_format.specs.StoreFile.{StoreBlock, checkpoints_of}
 use Rattle.store_reader.specs.Opening.{IsSomeStore}
-use Rattle.store_format.specs.declared.version.DocStoreVersion.TheVariants.{V1}
-use Rattle.store_reader.specs.Viewing.{Viewing, IsViewOf, Finds, count_in}
+use Rattle.store_reader.specs.Viewing.{Finds}
 use Rattle.docstore.specs.Writer.{Writing, IsTooLarge, num_docs}
 use Rattle.layered_index.specs.declared.row.Row.{Row}
 use Rattle.store_c.specs.declared.writer.Writer.{Writer}
@@ -16,7 +15,7 @@ use Rattle.store_c.specs.declared.writer_refusal.WriterRefusal.{WriterRefusal}
 use Rattle.store_c.specs.declared.writer_refusal.WriterRefusal.TheVariants.{NoMemory, OldVersion, BlockTooLarge, TooManyDocs, BadPeriod, NoRoom, OpenBlock, OtherWriter}
 use Rattle.store_c.specs.Writing.{Memory, memory, Holds, writer_number, LacksRoom, HasRoom, HasNoEnd, IsOther, RefusesLength, TakesLength, RefusesBlock, TakesBlock}
 use Rattle.store_c.specs.Writing.{RefusesStore, ComesFor, MayFollow, RefusesBlocks, TakesBlocks}
-use Rattle.store_c.proofs.FirstRefusalLemmas.{same_view, some_store, other_number}
+use Rattle.store_c.proofs.FirstRefusalLemmas.{same_store, other_number}
 use Rattle.store_c.proofs.MemoryRefusalLemmas.{no_room}
 
 -- ---- a document that is put
@@ -99,17 +98,17 @@ ended_somewhere m (inr t) x = x.2 t.1.0 t.1.1
 -- ---- a store that is stacked
 
 -- what is so of the store of these bytes
-here : (file : List ℕ) (view : Viewing) (Why : Viewing → Type 0) → IsViewOf file view → RefusesStore file Why → Why view
-here file view Why of r = subst Why (same_view file r.view view r.of of) r.why
+here : (file : List ℕ) (s : IsSomeStore file) (Why : ℕ → List StoreBlock → Type 0) → RefusesStore file Why → Why s.version s.blocks
+here file s Why r = let same = same_store file r.store s in subst (λ (n : ℕ). Why n s.blocks) same.0 (subst (Why r.store.version) same.1 r.why)
 
-module _ (file : List ℕ) (view : Viewing) (of : IsViewOf file view) (writer : Writer) (table : List Row) (result : ℕ) where
-  comes : (n : ℕ) (Why : Viewing → Type 0) → result ≡ n → Why view → ComesFor n result file Why
-  comes n Why is why kept = (λ _. record { view = view; of = of; why = why }, λ _. is)
+module _ (file : List ℕ) (s : IsSomeStore file) (writer : Writer) (table : List Row) (result : ℕ) where
+  comes : (n : ℕ) (Why : ℕ → List StoreBlock → Type 0) → result ≡ n → Why s.version s.blocks → ComesFor n result file Why
+  comes n Why is why = (λ _. record { store = s; why = why }, λ _. is)
 
-  never : (n : ℕ) (Why : Viewing → Type 0) → (result ≡ n → ⊥) → (Why view → ⊥) → ComesFor n result file Why
-  never n Why other false_here kept = (λ e. absurd (other e), λ r. absurd (false_here (here file view Why of r)))
+  never : (n : ℕ) (Why : ℕ → List StoreBlock → Type 0) → (result ≡ n → ⊥) → (Why s.version s.blocks → ⊥) → ComesFor n result file Why
+  never n Why other false_here = (λ e. absurd (other e), λ r. absurd (false_here (here file s Why r)))
 
-  pub stack_old : (r : WriterRefusal) → result ≡ writer_number r → RefusesBlocks view writer table r → ComesFor 11 result file (λ v. v.version ≡ V1)
+  pub stack_old : (r : WriterRefusal) → result ≡ writer_number r → RefusesBlocks s.version s.blocks writer table r → ComesFor 11 result file (λ version bs. version ≡ 1)
   stack_old OldVersion is why = comes 11 _ is why
   stack_old OpenBlock is why = never 11 _ (λ e. omega (arith, e, is)) why.0
   stack_old TooManyDocs is why = never 11 _ (λ e. omega (arith, e, is)) why.0.0
@@ -119,7 +118,7 @@ module _ (file : List ℕ) (view : Viewing) (of : IsViewOf file view) (writer : 
   stack_old BlockTooLarge is why = absurd why
   stack_old BadPeriod is why = absurd why
 
-  pub stack_other : (r : WriterRefusal) → result ≡ writer_number r → RefusesBlocks view writer table r → result ≡ 35 → IsOther writer table
+  pub stack_other : (r : WriterRefusal) → result ≡ writer_number r → RefusesBlocks s.version s.blocks writer table r → result ≡ 35 → IsOther writer table
   stack_other OtherWriter is why e = why.1
   stack_other OldVersion is why e = absurd (omega (arith, e, is))
   stack_other OpenBlock is why e = absurd (omega (arith, e, is))
@@ -129,7 +128,18 @@ module _ (file : List ℕ) (view : Viewing) (of : IsViewOf file view) (writer : 
   stack_other BlockTooLarge is why e = absurd why
   stack_other BadPeriod is why e = absurd why
 
-  pub stack_open : (r : WriterRefusal) → result ≡ writer_number r → RefusesBlocks view writer table r → ComesFor 34 result file (λ v. (v.version ≢ V1) × (0 < writer.docs))
+  pub stack_no_room : (r : WriterRefusal) → result ≡ writer_number r → RefusesBlocks s.version s.blocks writer table r → result ≡ 32
+      → (r ≡ NoRoom) × (length table < writer.blocks + length (checkpoints_of s.blocks))
+  stack_no_room NoRoom is why e = (refl, why.2)
+  stack_no_room OldVersion is why e = absurd (omega (arith, e, is))
+  stack_no_room OpenBlock is why e = absurd (omega (arith, e, is))
+  stack_no_room TooManyDocs is why e = absurd (omega (arith, e, is))
+  stack_no_room OtherWriter is why e = absurd (omega (arith, e, is))
+  stack_no_room NoMemory is why e = absurd why
+  stack_no_room BlockTooLarge is why e = absurd why
+  stack_no_room BadPeriod is why e = absurd why
+
+  pub stack_open : (r : WriterRefusal) → result ≡ writer_number r → RefusesBlocks s.version s.blocks writer table r → ComesFor 34 result file (λ version bs. (version ≢ 1) × (0 < writer.docs))
   stack_open OldVersion is why = never 34 _ (λ e. omega (arith, e, is)) (λ x. x.0 why)
   stack_open OpenBlock is why = comes 34 _ is why
   stack_open TooManyDocs is why = never 34 _ (λ e. omega (arith, e, is)) (λ x. omega (arith, x.1, why.0.1))
@@ -140,8 +150,8 @@ module _ (file : List ℕ) (view : Viewing) (of : IsViewOf file view) (writer : 
   stack_open BadPeriod is why = absurd why
 
   module _ (starts text : List ℕ) (w : Writing) (h : Holds (memory writer starts table) text w) where
-    pub stack_many : (r : WriterRefusal) → result ≡ writer_number r → RefusesBlocks view writer table r
-        → ComesFor 14 result file (λ v. MayFollow v writer × (2 ^ 32 ≤ num_docs w + count_in v))
+    pub stack_many : (r : WriterRefusal) → result ≡ writer_number r → RefusesBlocks s.version s.blocks writer table r
+        → ComesFor 14 result file (λ version bs. MayFollow version writer × (2 ^ 32 ≤ num_docs w + length (slots bs)))
     stack_many OldVersion is why = never 14 _ (λ e. omega (arith, e, is)) (λ x. x.0.0 why)
     stack_many OpenBlock is why = never 14 _ (λ e. omega (arith, e, is)) (λ x. omega (arith, x.0.1, why.1))
     stack_many TooManyDocs is why = comes 14 _ is (why.0, why.1 starts text w h)
@@ -151,8 +161,8 @@ module _ (file : List ℕ) (view : Viewing) (of : IsViewOf file view) (writer : 
     stack_many BlockTooLarge is why = absurd why
     stack_many BadPeriod is why = absurd why
 
-    pub stack_room : (r : WriterRefusal) → result ≡ writer_number r → RefusesBlocks view writer table r
-        → ComesFor 32 result file (λ v. MayFollow v writer × (num_docs w + count_in v < 2 ^ 32) × (length table < writer.blocks + length (checkpoints_of v.store)))
+    pub stack_room : (r : WriterRefusal) → result ≡ writer_number r → RefusesBlocks s.version s.blocks writer table r
+        → ComesFor 32 result file (λ version bs. MayFollow version writer × (num_docs w + length (slots bs) < 2 ^ 32) × (length table < writer.blocks + length (checkpoints_of bs)))
     stack_room OldVersion is why = never 32 _ (λ e. omega (arith, e, is)) (λ x. x.0.0 why)
     stack_room OpenBlock is why = never 32 _ (λ e. omega (arith, e, is)) (λ x. omega (arith, x.0.1, why.1))
     stack_room TooManyDocs is why = never 32 _ (λ e. omega (arith, e, is)) (λ x. omega (arith, x.1, why.1 starts text w h))
@@ -163,27 +173,20 @@ module _ (file : List ℕ) (view : Viewing) (of : IsViewOf file view) (writer : 
     stack_room BadPeriod is why = absurd why
 
     -- one that is stacked has none of the causes
-    pub stacked_many : result ≡ 0 → TakesBlocks view writer table → ComesFor 14 result file (λ v. MayFollow v writer × (2 ^ 32 ≤ num_docs w + count_in v))
+    pub stacked_many : result ≡ 0 → TakesBlocks s.version s.blocks writer table → ComesFor 14 result file (λ version bs. MayFollow version writer × (2 ^ 32 ≤ num_docs w + length (slots bs)))
     stacked_many is t = never 14 _ (λ e. omega (arith, e, is)) (λ x. omega (arith, x.1, t.numbers starts text w h))
 
-    pub stacked_room : result ≡ 0 → TakesBlocks view writer table
-        → ComesFor 32 result file (λ v. MayFollow v writer × (num_docs w + count_in v < 2 ^ 32) × (length table < writer.blocks + length (checkpoints_of v.store)))
+    pub stacked_room : result ≡ 0 → TakesBlocks s.version s.blocks writer table
+        → ComesFor 32 result file (λ version bs. MayFollow version writer × (num_docs w + length (slots bs) < 2 ^ 32) × (length table < writer.blocks + length (checkpoints_of bs)))
     stacked_room is t = never 32 _ (λ e. omega (arith, e, is)) (λ x. omega (arith, x.2, t.room))
 
-  pub stacked_old : result ≡ 0 → TakesBlocks view writer table → ComesFor 11 result file (λ v. v.version ≡ V1)
+  pub stacked_old : result ≡ 0 → TakesBlocks s.version s.blocks writer table → ComesFor 11 result file (λ version bs. version ≡ 1)
   stacked_old is t = never 11 _ (λ e. omega (arith, e, is)) t.may.0
 
-  pub stacked_open : result ≡ 0 → TakesBlocks view writer table → ComesFor 34 result file (λ v. (v.version ≢ V1) × (0 < writer.docs))
+  pub stacked_open : result ≡ 0 → TakesBlocks s.version s.blocks writer table → ComesFor 34 result file (λ version bs. (version ≢ 1) × (0 < writer.docs))
   stacked_open is t = never 34 _ (λ e. omega (arith, e, is)) (λ x. omega (arith, x.1, t.may.1))
 
 -- bytes that are not opened are the file of no store
-pub unopened_for : (file : List ℕ) (e : StoreError) (n result : ℕ) (Why : Viewing → Type 0) → result ≡ number_of e → Finds file (Err e) → (e ≡ OutOfMemory) ⊎ (IsSomeStore file → ⊥)
-    → (n ≡ 11) ⊎ (n ≡ 14)
-    → ComesFor n result file Why
-unopened_for file e n result Why is finds refused which kept = (
-  λ comes. absurd (other_number file e n finds which (sym is ∙ comes)),
-  λ r. elim refused [
-    | inl memory ↦ absurd (kept (is ∙ ap number_of memory))
-    | inr none ↦ absurd (none (some_store file r.view r.of))
-  ],
-)
+pub unopened_for : (file : List ℕ) (e : StoreError) (n result : ℕ) (Why : ℕ → List StoreBlock → Type 0) → result ≡ number_of e → Finds file (Err e) → (IsSomeStore file → ⊥) → 5 < n → n < 16
+    → (n ≡ 10 → ⊥) → ComesFor n result file Why
+unopened_for file e n result Why is finds none from to kept = (λ comes. absurd (other_number file e n finds from to kept (sym is ∙ comes)), λ r. absurd (none r.store))

@@ -1,19 +1,21 @@
 -- What the calls of C are answered.
-use Rattle.std.specs.Prelude.{◌≡◌, ◌⊎◌, ℕ, ◌+◌, ◌<◌, ◌≤◌, List, ◌++◌}
-use Rattle.std.specs.Prelude.{length, take, drop, map}
+use Rattle.std.specs.Prelude.{◌≡◌, ◌≢◌, ◌⊎◌, ℕ, ◌+◌, ◌<◌, ◌≤◌, List}
+use Rattle.std.specs.Prelude.{length, take, drop}
 use Rattle.std.specs.Prelude.{slice_get, slice_range, Option, Some, None, IfSome}
 use Rattle.layered_index.specs.declared.checkpoint.Checkpoint.{Checkpoint}
 use Rattle.layered_index.specs.Checkpoint.{first_past}
-use Rattle.layered_index.specs.Rows.{ends_in, ends_of}
+use Rattle.layered_index.specs.Rows.{AreRowsOf}
 use Rattle.store_base.specs.Outcome.{number_of}
 use Rattle.store_base.specs.declared.error.StoreError.{StoreError}
+use Rattle.store_base.specs.declared.error.StoreError.TheVariants.{Memory}
 use Rattle.store_format.specs.Block.{Slot, doc, damaged}
+use Rattle.store_format.specs.Slots.{slots}
 use Rattle.store_format.specs.StoreFile.{checkpoints_of}
 use Rattle.store_reader.specs.Opening.{IsSomeStore}
-use Rattle.store_reader.specs.Viewing.{Viewing, IsViewOf, Finds, slot_of, count_in}
+use Rattle.store_reader.specs.StoreSlices.{count_of_store}
+use Rattle.store_reader.specs.Viewing.{Finds}
 use Rattle.std.specs.declared.result.Result.TheVariants.{Err}
 use Rattle.layered_index.specs.declared.row.Row.{Row}
-use Rattle.layered_index.specs.declared.row.RowEnd.{RowEnd}
 use Rattle.store_c.specs.declared.place.Place.{Place}
 use Rattle.store_c.specs.declared.refusal.Refusal.{Refusal}
 use Rattle.store_c.specs.declared.refusal.Refusal.TheVariants.{NoDocument, Damaged, NoRoom, OtherTable}
@@ -21,65 +23,51 @@ use Rattle.store_c.specs.declared.refusal.Refusal.TheVariants.{TailTooShort, Oth
 
 -- ---- tables
 
--- where a block ends after this place
-abbrev pub ends_after : RowEnd → Checkpoint → RowEnd
-ends_after start c = record {
-  end_doc = c.doc_range.end + start.end_doc;
-  end_byte = c.byte_range.end + start.end_byte;
-}
-
--- ends written over the front of these, as far as there is room
-abbrev pub with_front : List RowEnd → List RowEnd → List RowEnd
-with_front ends old = take (length old) ends ++ drop (length ends) old
-
 -- These bytes are the file of a store, and this is the table of its blocks.
 pub record IsTableOf (file : List ℕ) (table : List Row) : Type 0 where
-  pub view : Viewing
-  pub of : IsViewOf file view
-  pub ends : ends_in table ≡ map ends_of (checkpoints_of view.store)
+  pub store : IsSomeStore file
+  pub rows : AreRowsOf (checkpoints_of store.blocks) table
 
--- These bytes are the file of a store, which has this many blocks and documents. Its table goes over the front of this
--- one, and the rows after it stay.
+-- These bytes are the file of a store, which has this many blocks and documents. The table of its blocks goes over the
+-- front of this one, as far as there is room, and the rows after it stay.
 pub record Fills (file : List ℕ) (old new : List Row) (count num_docs : ℕ) : Type 0 where
-  pub view : Viewing
-  pub of : IsViewOf file view
-  pub blocks : count ≡ length (checkpoints_of view.store)
-  pub docs : num_docs ≡ count_in view
-  pub filled : ends_in new ≡ with_front (map ends_of (checkpoints_of view.store)) (ends_in old)
+  pub store : IsSomeStore file
+  pub blocks : count ≡ length (checkpoints_of store.blocks)
+  pub docs : num_docs ≡ count_of_store file store
+  pub filled : AreRowsOf (take (length old) (checkpoints_of store.blocks)) (take count new)
   pub rest : drop count new ≡ drop count old
 
 -- These bytes are the file of a store, which has this many blocks and documents.
 pub record HasCounts (file : List ℕ) (count num_docs : ℕ) : Type 0 where
-  pub view : Viewing
-  pub of : IsViewOf file view
-  pub blocks : count ≡ length (checkpoints_of view.store)
-  pub docs : num_docs ≡ count_in view
+  pub store : IsSomeStore file
+  pub blocks : count ≡ length (checkpoints_of store.blocks)
+  pub docs : num_docs ≡ count_of_store file store
 
 -- what a call returns that needs this much room: 0 if there is as much, and otherwise 32
 abbrev pub IsByRoom : ℕ → ℕ → ℕ → Type 0
 IsByRoom result need room = ((result ≡ 0) × (need ≤ room)) ⊎ ((result ≡ 32) × (room < need))
 
--- The refusal with this number is the first of these bytes, and they are no store's.
+-- The refusal with this number is the first of these bytes, memory aside, and they are no store's.
 pub record RefusesFile (file : List ℕ) (number : ℕ) : Type 0 where
   pub error : StoreError
   pub is : number ≡ number_of error
   pub finds : Finds file (Err error)
+  pub kept : error ≢ Memory
   pub no_store : IsSomeStore file → ⊥
 
 -- ---- places
 
 -- These bytes are the file of a store, and this is its slot at this number.
 pub record HasSlot (file : List ℕ) (id : ℕ) (s : Option Slot) : Type 0 where
-  pub view : Viewing
-  pub of : IsViewOf file view
-  pub slot : slot_of view id ≡ s
+  pub store : IsSomeStore file
+  pub slot : slice_get (slots store.blocks) id ≡ s
 
 -- A part of these bytes. It is the block of each of these documents, if the table is theirs.
 pub record IsTableBlock (file : List ℕ) (table : List Row) (c : Checkpoint) : Type 0 where
   pub order : c.byte_range.start ≤ c.byte_range.end
   pub within : c.byte_range.end ≤ length file
   pub sought : (known : IsTableOf file table) → (id : ℕ) → c.doc_range.start ≤ id → id < c.doc_range.end
-      → first_past (checkpoints_of known.view.store) id ≡ Some c
+      → first_past (checkpoints_of known.store.blocks) id ≡ Some c
 
 -- A part of these bytes. It is the document of this number, if the table is theirs.
 pub record IsPlace (file : List ℕ) (table : List Row) (id : ℕ) (p : Place) : Type 0 where

@@ -44,7 +44,8 @@ pub record RefusesFooter (tail : List ℕ) (number : ℕ) : Type 0 where
   pub is : number ≡ number_of error
   pub finds : FindsFooter tail (Err error)
 
--- The footer at the end of these bytes says that the index begins after the footer's first byte, in a file of this length.
+-- The footer at the end of these bytes says that the index begins after the footer's first byte, in a file of this
+-- length.
 pub record HasFarOffset (file_len : ℕ) (tail : List ℕ) : Type 0 where
   pub footer : DocStoreFooter
   pub finds : FindsFooter tail (Ok footer)

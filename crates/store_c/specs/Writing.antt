@@ -9,10 +9,10 @@ use Rattle.store_base.specs.Outputs.{Termination}
 use Rattle.store_base.specs.Serialize.{fixed}
 use Rattle.store_format.specs.Block.{block, starts_from}
 use Rattle.store_format.specs.Footer.{footer}
-use Rattle.store_format.specs.StoreFile.{IsStore, data_of, checkpoints_of, file, reserved_of}
+use Rattle.store_format.specs.Slots.{slots}
+use Rattle.store_format.specs.StoreFile.{StoreBlock, IsStore, data_of, checkpoints_of, file, reserved_of}
 use Rattle.store_format.specs.declared.kinds.Compressor.{Compressor}
-use Rattle.store_format.specs.declared.version.DocStoreVersion.TheVariants.{V1}
-use Rattle.store_reader.specs.Viewing.{Viewing, IsViewOf, count_in}
+use Rattle.store_reader.specs.Opening.{IsSomeStore}
 use Rattle.docstore.specs.BlockOutput.{new_output}
 use Rattle.docstore.specs.Writer.{Writing, IsStoreWriter, IsTooLarge, new_writing, num_docs, flushed}
 use Rattle.docstore.specs.Writer.{with_document}
@@ -77,21 +77,20 @@ EndsBlock count old new =
     → Holds new (written ++ bytes_of count new.starts) (flushed w)
 
 -- The blocks of a store are put after the others, once its data is written.
-abbrev pub PutsBlocks : Viewing → Writer → List Row → Writer → List Row → Type 0
-PutsBlocks view old_writer old_table new_writer new_table =
+abbrev pub PutsBlocks : List StoreBlock → Writer → List Row → Writer → List Row → Type 0
+PutsBlocks bs old_writer old_table new_writer new_table =
     (starts : List ℕ) (written : List ℕ) (w : Writing) → Holds (memory old_writer starts old_table) written w
-    → Holds (memory new_writer starts new_table) (written ++ data_of view.store) (with_store w view.store)
+    → Holds (memory new_writer starts new_table) (written ++ data_of bs) (with_store w bs)
 
 -- These bytes are the file of a store that can be stacked, whose data are the first of them.
 pub record PutsStore (bytes : List ℕ) (len count : ℕ) (old_writer : Writer) (old_table : List Row)
     (new_writer : Writer) (new_table : List Row) : Type 0 where
-  pub view : Viewing
-  pub of : IsViewOf bytes view
-  pub version : view.version ≢ V1
-  pub front : take len bytes ≡ data_of view.store
+  pub store : IsSomeStore bytes
+  pub version : store.version ≢ 1
+  pub front : take len bytes ≡ data_of store.blocks
   pub within : len ≤ length bytes
-  pub blocks : count ≡ length (checkpoints_of view.store)
-  pub puts : PutsBlocks view old_writer old_table new_writer new_table
+  pub blocks : count ≡ length (checkpoints_of store.blocks)
+  pub puts : PutsBlocks store.blocks old_writer old_table new_writer new_table
 
 -- These bytes are the file of the writer's blocks, and no document waits.
 pub record IsFileOf (period : ℕ) (bytes : List ℕ) (w : Writing) : Type 0 where
@@ -153,10 +152,10 @@ IsOther writer table =
     (starts : List ℕ) (written : List ℕ) (w : Writing) → Holds (memory writer starts table) written w → ⊥
 
 -- The documents of both can't be numbered.
-abbrev pub HasTooManyWith : Viewing → Writer → List Row → Type 0
-HasTooManyWith view writer table =
+abbrev pub HasTooManyWith : List StoreBlock → Writer → List Row → Type 0
+HasTooManyWith bs writer table =
     (starts : List ℕ) (written : List ℕ) (w : Writing) → Holds (memory writer starts table) written w
-    → 2 ^ 32 ≤ num_docs w + count_in view
+    → 2 ^ 32 ≤ num_docs w + length (slots bs)
 
 -- A block that begins here and has this many documents of this many bytes ends here, and has its place in 32 bits.
 pub record EndsBlockAt (start : RowEnd) (docs bytes : ℕ) (end : RowEnd) : Type 0 where
@@ -207,44 +206,50 @@ abbrev pub TakesBlock : Memory → Type 0
 TakesBlock m = (m.writer.docs ≡ 0)
     ⊎ (HasRoom 1 m × ((end : RowEnd) × EndsBlockAt (open_start m) m.writer.docs m.writer.bytes end))
 
--- These bytes are the file of a store, and this is so of it.
-pub record RefusesStore (bytes : List ℕ) (Why : Viewing → Type 0) : Type 0 where
-  pub view : Viewing
-  pub of : IsViewOf bytes view
-  pub why : Why view
+-- These bytes are the file of a store, and this is so of its version and its blocks.
+pub record RefusesStore (bytes : List ℕ) (Why : ℕ → List StoreBlock → Type 0) : Type 0 where
+  pub store : IsSomeStore bytes
+  pub why : Why store.version store.blocks
 
--- The number comes exactly where the bytes are the file of a store, and this is so of it; memory aside.
-abbrev pub ComesFor : ℕ → ℕ → List ℕ → (Viewing → Type 0) → Type 0
-ComesFor number result bytes Why = result ≢ 10 → (result ≡ number) ↔ RefusesStore bytes Why
+-- The number comes exactly where the bytes are the file of a store, and this is so of its version and its blocks.
+abbrev pub ComesFor : ℕ → ℕ → List ℕ → (ℕ → List StoreBlock → Type 0) → Type 0
+ComesFor number result bytes Why = (result ≡ number) ↔ RefusesStore bytes Why
 
--- The store's documents are in no older form, and no block is open before them.
-abbrev pub MayFollow : Viewing → Writer → Type 0
-MayFollow view writer = (view.version ≢ V1) × (writer.docs ≡ 0)
+-- A store of this version has its documents in no older form, and no block is open before them.
+abbrev pub MayFollow : ℕ → Writer → Type 0
+MayFollow version writer = (version ≢ 1) × (writer.docs ≡ 0)
 
 -- The documents of both can be numbered.
-abbrev pub HasNumbersWith : Viewing → Writer → List Row → Type 0
-HasNumbersWith view writer table =
+abbrev pub HasNumbersWith : List StoreBlock → Writer → List Row → Type 0
+HasNumbersWith bs writer table =
     (starts : List ℕ) (written : List ℕ) (w : Writing) → Holds (memory writer starts table) written w
-    → num_docs w + count_in view < 2 ^ 32
+    → num_docs w + length (slots bs) < 2 ^ 32
 
--- why the blocks of a store aren't put after these: the first of the causes
-abbrev pub RefusesBlocks : Viewing → Writer → List Row → WriterRefusal → Type 0
-RefusesBlocks view writer table OldVersion = view.version ≡ V1
-RefusesBlocks view writer table OpenBlock = (view.version ≢ V1) × (0 < writer.docs)
-RefusesBlocks view writer table TooManyDocs = MayFollow view writer × HasTooManyWith view writer table
-RefusesBlocks view writer table OtherWriter = MayFollow view writer × IsOther writer table
-RefusesBlocks view writer table NoRoom =
-    MayFollow view writer × HasNumbersWith view writer table
-    × (length table < writer.blocks + length (checkpoints_of view.store))
-RefusesBlocks view writer table _ = ⊥
+-- why the blocks of a store of this version aren't put after these: the first of the causes
+abbrev pub RefusesBlocks : ℕ → List StoreBlock → Writer → List Row → WriterRefusal → Type 0
+RefusesBlocks version bs writer table OldVersion = version ≡ 1
+RefusesBlocks version bs writer table OpenBlock = (version ≢ 1) × (0 < writer.docs)
+RefusesBlocks version bs writer table TooManyDocs = MayFollow version writer × HasTooManyWith bs writer table
+RefusesBlocks version bs writer table OtherWriter = MayFollow version writer × IsOther writer table
+RefusesBlocks version bs writer table NoRoom =
+    MayFollow version writer × HasNumbersWith bs writer table
+    × (length table < writer.blocks + length (checkpoints_of bs))
+RefusesBlocks version bs writer table _ = ⊥
 
--- The blocks of a store may follow these: they have numbers, and there is room for their rows.
-pub record TakesBlocks (view : Viewing) (writer : Writer) (table : List Row) : Type 0 where
-  pub may : MayFollow view writer
-  pub numbers : HasNumbersWith view writer table
-  pub room : writer.blocks + length (checkpoints_of view.store) ≤ length table
+-- The blocks of a store of this version may follow these: they have numbers, and there is room for their rows.
+pub record TakesBlocks (version : ℕ) (bs : List StoreBlock) (writer : Writer) (table : List Row) : Type 0 where
+  pub may : MayFollow version writer
+  pub numbers : HasNumbersWith bs writer table
+  pub room : writer.blocks + length (checkpoints_of bs) ≤ length table
 
 -- ---- blocks and their ends
+
+-- where a block ends after this place
+abbrev pub ends_after : RowEnd → Checkpoint → RowEnd
+ends_after start c = record {
+  end_doc = c.doc_range.end + start.end_doc;
+  end_byte = c.byte_range.end + start.end_byte;
+}
 
 -- why there is no such place
 abbrev pub RefusesEnd : RowEnd → ℕ → ℕ → WriterRefusal → Type 0

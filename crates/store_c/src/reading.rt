@@ -4,17 +4,21 @@ ghost use Rattle.std.specs.Prelude.{◌≡◌, ◌≢◌, ◌+◌, ◌<◌, ◌�
 ghost use Rattle.store_format.specs.Block.{damaged};
 ghost use Rattle.store_c.specs.Calls.{IsTableOf, Fills, HasCounts, IsByRoom, IsPlace, ArePlaces, HasSlot, RefusesFile};
 
-use crate::filling::fill_table;
+use crate::opening::open;
 use crate::place::Place;
 use crate::refusal::Refusal;
 use crate::{DONE, locating};
-use docstore::{Row, StoreView};
+use docstore::Row;
+use layered_index::write_guides;
 use std::alloc::Global;
 
-/// Opens the store whose file these bytes are: fills the table of its blocks, and sets how many blocks and how many
-/// documents there are. It is refused by 32 where the table has no room for all blocks; then the table has the first of
-/// them, and both numbers are set. It is refused by 10 where memory runs out, and by the number of the first refusal
-/// of the footer or the index.
+/// Opens the store whose file these bytes are: checks its index, fills the table of its blocks, and sets how many
+/// blocks and how many documents there are. It takes no memory.
+///
+/// It is refused by 32 where the table has no room for all blocks; then the table has the first of them, without their
+/// guides, and both numbers are set. Otherwise it is refused by the number of the first refusal of the footer or the
+/// index, and then both numbers stay. After 5, which comes of the index, the table may hold anything; after any other
+/// number it stays.
 #[unsafe(no_mangle)]
 pub extern "C" fn zevk_open(
     alloc: Global,
@@ -29,25 +33,26 @@ pub extern "C" fn zevk_open(
 
     // Each refusal.
     ensures no_room { result ≡ 32 → length table.old < count.new }
-    ensures refused { result ≢ 0 → result ≢ 10 → result ≢ 32 → RefusesFile file.now result }
-    ensures first { (number : ℕ) → RefusesFile file.now number → number ≢ 10 → result ≢ 10 → result ≡ number }
-    ensures counts { (blocks docs : ℕ) → HasCounts file.now blocks docs → result ≢ 10
+    ensures refused { result ≢ 0 → result ≢ 32 → RefusesFile file.now result }
+    ensures first { (number : ℕ) → RefusesFile file.now number → result ≡ number }
+    ensures counts { (blocks docs : ℕ) → HasCounts file.now blocks docs
         → (count.new ≡ blocks) × (num_docs.new ≡ docs) × IsByRoom result blocks (length table.old) }
 
-    ensures stays { result ≢ 0 → result ≢ 32 → (table.new ≡ table.old) × (count.new ≡ count.old)
-        × (num_docs.new ≡ num_docs.old) }
+    ensures no_memory { result ≢ 10 }
+    ensures stays { result ≢ 0 → result ≢ 32 → (count.new ≡ count.old) × (num_docs.new ≡ num_docs.old) }
+    ensures rows { result ≢ 0 → result ≢ 32 → result ≢ 5 → table.new ≡ table.old }
 {
-    let view = match StoreView::open(alloc, file) {
-        Ok(view) => view,
+    let (_, checked) = match open(alloc, file, table) {
+        Ok(opened) => opened,
         Err(error) => return error.number(),
     };
-    *num_docs = view.num_docs();
-    *count = fill_table(view.block_checkpoints(), table);
-    if *count <= table.len() {
-        DONE
-    } else {
-        Refusal::NoRoom.number()
+    *count = checked.blocks;
+    *num_docs = checked.docs;
+    if checked.blocks > table.len() {
+        return Refusal::NoRoom.number();
     }
+    write_guides(&mut table[..checked.blocks]);
+    DONE
 }
 
 /// Sets `place` to where a document lies in the file, by the table that `zevk_open` filled for these bytes. With any

@@ -2,19 +2,19 @@
 //! blocks are the caller's memory, and so are the documents: the caller writes them, and after them what
 //! these calls return.
 ghost use Rattle.std.specs.Prelude.{◌≡◌, ◌≢◌, ◌⊎◌, ◌↔◌, ◌+◌, ◌-◌, ◌^◌, ◌<◌, ◌≤◌, ℕ, List, length, take, drop};
+ghost use Rattle.store_format.specs.Slots.{slots};
 ghost use Rattle.store_format.specs.StoreFile.{checkpoints_of};
-ghost use Rattle.store_format.specs.declared.version.DocStoreVersion.TheVariants.{V1};
-ghost use Rattle.store_reader.specs.Viewing.{count_in};
 ghost use Rattle.docstore.specs.Writer.{Writing, IsTooLarge, num_docs};
 ghost use Rattle.store_c.specs.Calls.{RefusesFile, IsByRoom};
 ghost use Rattle.store_c.specs.Writing.{memory, Holds, Begins, PutsDocument, EndsBlock, PutsStore, EndsFile, HasEnd};
 ghost use Rattle.store_c.specs.Writing.{LacksRoom, HasRoom, HasNoEnd, IsOther, MayFollow, RefusesStore, ComesFor};
 
 use crate::ending::end_of_file;
+use crate::opening::open;
 use crate::writer::Writer;
 use crate::writer_refusal::WriterRefusal;
 use crate::{DONE, open_block, stacking};
-use docstore::{Row, StoreView};
+use docstore::Row;
 use std::alloc::Global;
 
 /// Begins a store that has nothing yet. A block of documents is ended once they exceed the block size: their
@@ -106,13 +106,12 @@ pub extern "C" fn zevk_writer_end_block(
 }
 
 /// Appends the blocks of the store whose file these bytes are to those that were ended. The caller writes its data
-/// after what was written: the first `len` bytes of the file. It has `count` blocks.
+/// after what was written: the first `len` bytes of the file. It has `count` blocks. It takes no memory.
 ///
-/// It is refused, in this order: by the number of the first refusal of the footer or the index, by 10 where memory runs
-/// out, by 11 where its documents may be in an older form, by 34 where the open block has documents, by 14 where the
-/// documents of both can't be numbered, and by 32 where there is no room for the rows of its blocks. Then `count` is
-/// set, and the rows after those that were ended may hold anything. It is refused by 35 only where the numbers are not
-/// as these calls left them.
+/// It is refused, in this order: by the number of the first refusal of the footer or the index, by 11 where its
+/// documents may be in an older form, by 34 where the open block has documents, by 14 where the documents of both can't
+/// be numbered, and by 32 where there is no room for the rows of its blocks; then `count` is set. It is refused by 35
+/// only where the numbers are not as these calls left them. A refusal keeps the table.
 #[unsafe(no_mangle)]
 pub extern "C" fn zevk_writer_stack(
     alloc: Global,
@@ -126,31 +125,34 @@ pub extern "C" fn zevk_writer_stack(
         → PutsStore file.now len.new count.new writer.old table.old writer.new table.new }
 
     // Each refusal, in the order in which they win.
-    ensures refused { result ≢ 0 → result ≢ 10 → result ≢ 11 → result ≢ 14 → result ≢ 32 → result ≢ 34
-        → result ≢ 35 → RefusesFile file.now result }
-    ensures first { (number : ℕ) → RefusesFile file.now number → number ≢ 10 → result ≢ 10 → result ≡ number }
-    ensures old_version { ComesFor 11 result file.now (λ view. view.version ≡ V1) }
-    ensures open_block { ComesFor 34 result file.now (λ view. (view.version ≢ V1) × (0 < writer.old.docs)) }
+    ensures refused { result ≢ 0 → result ≢ 11 → result ≢ 14 → result ≢ 32 → result ≢ 34 → result ≢ 35
+        → RefusesFile file.now result }
+    ensures first { (number : ℕ) → RefusesFile file.now number → result ≡ number }
+    ensures old_version { ComesFor 11 result file.now (λ version bs. version ≡ 1) }
+    ensures open_block { ComesFor 34 result file.now (λ version bs. (version ≢ 1) × (0 < writer.old.docs)) }
     ensures too_many { (starts written : List ℕ) (w : Writing) → Holds (memory writer.old starts table.old) written w
-        → ComesFor 14 result file.now (λ view. MayFollow view writer.old × (2 ^ 32 ≤ num_docs w + count_in view)) }
+        → ComesFor 14 result file.now (λ version bs. MayFollow version writer.old
+        × (2 ^ 32 ≤ num_docs w + length (slots bs))) }
     ensures room { (starts written : List ℕ) (w : Writing) → Holds (memory writer.old starts table.old) written w
-        → ComesFor 32 result file.now (λ view. MayFollow view writer.old × (num_docs w + count_in view < 2 ^ 32)
-        × (length table.old < writer.old.blocks + length (checkpoints_of view.store))) }
-    ensures no_room { result ≡ 32 → RefusesStore file.now (λ view. (count.new ≡ length (checkpoints_of view.store))
+        → ComesFor 32 result file.now (λ version bs. MayFollow version writer.old
+        × (num_docs w + length (slots bs) < 2 ^ 32)
+        × (length table.old < writer.old.blocks + length (checkpoints_of bs))) }
+    ensures no_room { result ≡ 32 → RefusesStore file.now (λ version bs. (count.new ≡ length (checkpoints_of bs))
         × (length table.old < writer.old.blocks + count.new)) }
     ensures other { result ≡ 35 → IsOther writer.old table.old }
 
-    ensures kept { result ≢ 0 → (writer.new ≡ writer.old) × (len.new ≡ len.old) }
-    ensures stays { result ≢ 0 → result ≢ 32 → (table.new ≡ table.old) × (count.new ≡ count.old) }
+    ensures no_memory { result ≢ 10 }
+    ensures kept { result ≢ 0 → (writer.new ≡ writer.old) × (table.new ≡ table.old) × (len.new ≡ len.old) }
+    ensures stays { result ≢ 0 → result ≢ 32 → count.new ≡ count.old }
     ensures rows { take writer.old.blocks table.new ≡ take writer.old.blocks table.old }
 {
-    let view = match StoreView::open(alloc, file) {
-        Ok(view) => view,
+    let (store, checked) = match open(alloc, file, &mut []) {
+        Ok(opened) => opened,
         Err(error) => return error.number(),
     };
-    match stacking::stack(writer, table, &view, count) {
+    match stacking::stack(writer, table, &store, &checked, count) {
         Ok(()) => {
-            *len = view.block_data().len();
+            *len = store.block_data().len();
             DONE
         }
         Err(refusal) => refusal.number(),

@@ -7,7 +7,7 @@ ghost use Rattle.layered_index.specs.IndexHeads.{ReadsAtMost};
 use crate::store_part::part_of;
 use docstore::{
     DocStoreFooter, FOOTER_LEN, FileHandle, FileSlice, IndexFault, SkipIndex, StoreError,
-    read_footer,
+    find_fault, read_footer,
 };
 use std::alloc::Global;
 use std::fmt;
@@ -64,7 +64,7 @@ fn part_before<H: FileHandle>(
 {
     let end = file.len() - FOOTER_LEN;
     let part = part_of(alloc, file, footer.offset, end)?;
-    if let Some(fault) = SkipIndex::find_fault(alloc, &part, footer.period)? {
+    if let Some(fault) = find_fault(part.as_slice(), footer.period) {
         return Ok(BrokenPart::Index {
             begin: footer.offset,
             fault,

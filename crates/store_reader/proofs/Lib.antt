@@ -31,6 +31,7 @@ pub mod StoredLemmas
 pub mod OpenedCoverLemmas
 pub mod StoreSliceLemmas
 pub mod StoreOutlineLemmas
+pub mod StoreCheckLemmas
 pub mod BlocksLeftLemmas
 pub mod AmidLemmas
 pub mod SliceGivenLemmas

@@ -21,6 +21,7 @@ use Rattle.store_format.specs.Footer.{footer, kind_of, version_number}
 use Rattle.store_format.specs.Slots.{slots}
 use Rattle.store_format.specs.StoreFile.{StoreBlock, HasForm, IsStore, blocks_at, checkpoints_of, data_of}
 use Rattle.store_format.proofs.StoreLemmas.{checkpoints_cover, blocks_from, checkpoints_in_line, data_fits}
+use Rattle.store_reader.specs.Covering.{HasIndexOf}
 use Rattle.store_reader.specs.CallAnswers.{exact_result}
 use Rattle.store_reader.specs.GetAnswer.{AnswersTruly}
 use Rattle.store_reader.specs.Opening.{IsSomeStore}
@@ -93,16 +94,19 @@ finds_footer bytes e finds = record { footer = Err e; reads = finds; goes_on = r
 pub finds_past : (bytes : List ℕ) (f : DocStoreFooter) → FindsFooter bytes (Ok f) → length bytes - 28 < f.offset → Finds bytes (Err BadOffset)
 finds_past bytes f finds past = record { footer = Ok f; reads = finds; goes_on = record { past = λ _. refl; within = λ le. absurd (omega arith) } }
 
+pub finds_bad_index : (bytes : List ℕ) (f : DocStoreFooter) → FindsFooter bytes (Ok f) → f.offset ≤ length bytes - 28
+    → (HasIndexOf f.period (slice_range bytes f.offset (length bytes - 28)) f.offset → ⊥) → Finds bytes (Err BadIndex)
+finds_bad_index bytes f finds le none = record { footer = Ok f; reads = finds; goes_on = record { past = λ past. absurd (omega arith); within = λ _. inl (refl, none) } }
+
+-- an index of a list that covers bytes is one of a list in line
+pub index_of_some : (period : ℕ) (part : List ℕ) (covered : ℕ) → HasIndexOf period part covered → HasIndex period part
+index_of_some period part covered has = (has.0, (in_line_from 0 0 has.0 has.1.covers.in_line, has.1.spells))
+
 pub finds_no_index : (bytes : List ℕ) (f : DocStoreFooter) (e : StoreError) → FindsFooter bytes (Ok f) → f.offset ≤ length bytes - 28
     → (e ≡ BadIndex) × (HasIndex f.period (slice_range bytes f.offset (length bytes - 28)) → ⊥) → Finds bytes (Err e)
-finds_no_index bytes f e finds le none = record {
-  footer = Ok f;
-  reads = finds;
-  goes_on = record {
-    past = λ past. absurd (omega arith);
-    within = λ _. inl (none.0, λ has. none.1 (has.0, (in_line_from 0 0 has.0 has.1.covers.in_line, has.1.spells)));
-  };
-}
+finds_no_index bytes f e finds le none =
+    let part = slice_range bytes f.offset (length bytes - 28) in
+    subst (λ (x : StoreError). Finds bytes (Err x)) (sym none.0) (finds_bad_index bytes f finds le (λ has. none.1 (index_of_some f.period part f.offset has)))
 
 -- ---- the store
 
@@ -245,6 +249,28 @@ exactly_true id (Some (doc bytes)) = refl
 -- what holds of the bytes inside holds of those that are seen
 pub seen_parts : (a b : List ℕ) (data_len : ℕ) (index : IndexBytes) (version : DocStoreVersion) → a ≡ b → IsStoreSlice a data_len index version → IsStoreSlice b data_len index version
 seen_parts a b data_len index version e h = subst (λ (bytes : List ℕ). IsStoreSlice bytes data_len index version) e h
+
+-- the index by its footer
+pub index_by_footer : (bytes : List ℕ) (data_len : ℕ) (index : IndexBytes) (version : DocStoreVersion) (is : IsStoreSlice bytes data_len index version)
+    → index ≡ record { period = is.footer.period; bytes = slice_range bytes is.footer.offset (length bytes - 28) }
+index_by_footer bytes data_len index version is = is.index_is ∙ ap (λ (n : ℕ). record { period = is.footer.period; bytes = slice_range bytes n (length bytes - 28) }) is.data_is
+
+-- the parts are those of the store
+pub slice_laid : (bytes : List ℕ) (data_len : ℕ) (index : IndexBytes) (version : DocStoreVersion) → IsStoreSlice bytes data_len index version → (s : IsSomeStore bytes)
+    → IsLaidOut bytes data_len index (version_number version) s
+slice_laid bytes data_len index version is s =
+    let low = is.within in
+    let laid = laid_out bytes is.footer index (omega arith) is.reads (index_by_footer bytes data_len index version is) s in
+    record {
+      data_is = is.data_is ∙ laid.data_is;
+      period_is = laid.period_is;
+      index_is = laid.index_is;
+      version_is = ap version_number is.version_is ∙ laid.version_is;
+    }
+
+pub seen_laid : (a b : List ℕ) (data_len : ℕ) (index : IndexBytes) (version : DocStoreVersion) → a ≡ b → IsStoreSlice a data_len index version → (s : IsSomeStore b)
+    → IsLaidOut b data_len index (version_number version) s
+seen_laid a b data_len index version e h = slice_laid b data_len index version (seen_parts a b data_len index version e h)
 
 -- each document of the block that a seek finds has its place there
 pub block_is_of : (bytes : List ℕ) (s : IsSomeStore bytes) (id : ℕ) (c : Checkpoint) → first_past (checkpoints_of s.blocks) id ≡ Some c

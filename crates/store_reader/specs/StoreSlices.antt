@@ -9,17 +9,18 @@ use Rattle.layered_index.specs.declared.checkpoint.Checkpoint.{Checkpoint}
 use Rattle.layered_index.specs.Checkpoint.{docs_end, first_past}
 use Rattle.layered_index.specs.declared.row.Row.{Row}
 use Rattle.layered_index.specs.Layers.{digit_count, index_part}
-use Rattle.layered_index.specs.Rows.{AreRowsAbove}
+use Rattle.layered_index.specs.Rows.{AreMarksOf, AreRowsAbove}
 use Rattle.layered_index.specs.Sought.{IndexBytes}
+use Rattle.store_format.specs.declared.footer.DocStoreFooter.{DocStoreFooter}
 use Rattle.store_format.specs.declared.version.DocStoreVersion.{DocStoreVersion}
 use Rattle.store_format.specs.Block.{slot}
-use Rattle.store_format.specs.Footer.{version_number}
 use Rattle.store_format.specs.Slots.{slots}
 use Rattle.store_format.specs.StoreFile.{data_of, checkpoints_of}
 use Rattle.store_reader.specs.declared.block_slice.BlockSlice.{BlockSlice}
+use Rattle.store_reader.specs.declared.store_head.StoreHead.{StoreHead}
 use Rattle.store_reader.specs.CallAnswers.{exact_result}
 use Rattle.store_reader.specs.Opening.{IsSomeStore}
-use Rattle.store_reader.specs.Viewing.{given}
+use Rattle.store_reader.specs.Viewing.{FindsFooter, given}
 
 -- What the document of this id is in the store whose file these bytes are: its bytes, or the refusal of this id where
 -- there is none or it is damaged.
@@ -44,16 +45,22 @@ pub record IsLaidOut (bytes : List ℕ) (data_len : ℕ) (index : IndexBytes) (v
   pub index_is : index.bytes ≡ index_part s.period (checkpoints_of s.blocks)
   pub version_is : version ≡ s.version
 
--- What always holds: the data and a footer lie in the bytes, and the parts are those of the store, if the bytes are a
--- store's file.
+-- What always holds: the footer of the bytes is read, and the index lies between the data and the footer, as it says.
 pub record IsStoreSlice (bytes : List ℕ) (data_len : ℕ) (index : IndexBytes) (version : DocStoreVersion) : Type 0 where
+  pub footer : DocStoreFooter
+  pub reads : FindsFooter bytes (Ok footer)
   pub within : data_len + 28 ≤ length bytes
-  pub laid_out : (s : IsSomeStore bytes) → IsLaidOut bytes data_len index (version_number version) s
+  pub data_is : data_len ≡ footer.offset
+  pub index_is : index ≡ record { period = footer.period; bytes = slice_range bytes data_len (length bytes - 28) }
+  pub version_is : version ≡ footer.doc_store_version
 
--- These are the rows of the layer that is this many layers above the store's blocks.
-pub record IsOutline (bytes : List ℕ) (s : IsSomeStore bytes) (height : ℕ) (rows : List Row) : Type 0 where
-  pub within : height ≤ digit_count s.period (length (checkpoints_of s.blocks))
-  pub are : AreRowsAbove s.period height (checkpoints_of s.blocks) rows
+-- These are the numbers of the store's file, and the rows of the layer above those that they say where they lie.
+pub record IsOutline (bytes : List ℕ) (s : IsSomeStore bytes) (head : StoreHead) (rows : List Row) : Type 0 where
+  pub data_is : head.data_len ≡ length (data_of s.blocks)
+  pub period_is : head.period ≡ s.period
+  pub within : head.lower.height ≤ digit_count s.period (length (checkpoints_of s.blocks))
+  pub marks : AreMarksOf s.period (index_part s.period (checkpoints_of s.blocks)) (checkpoints_of s.blocks) head.lower
+  pub are : AreRowsAbove s.period head.lower.height (checkpoints_of s.blocks) rows
 
 -- The block that begins at this byte and has these bytes is the one that has the document.
 pub record IsBlockSlice (bytes : List ℕ) (s : IsSomeStore bytes) (id first end start : ℕ)

@@ -1,12 +1,16 @@
 //! A block of a store in a slice of bytes.
-ghost use Rattle.std.specs.Prelude.{◌≡◌, ◌≤◌, ◌<◌, ◌+◌, ◌^◌, ℕ, List, [], length, IfOk, IfErr};
+ghost use Rattle.std.specs.Prelude.{◌≡◌, ◌≤◌, ◌<◌, ◌+◌, ◌^◌, ℕ, List, [], length, slice_range};
+ghost use Rattle.std.specs.Prelude.{IfOk, IfErr, IsOkAnd, Some};
+ghost use Rattle.layered_index.specs.Checkpoint.{first_past};
+ghost use Rattle.store_format.specs.StoreFile.{checkpoints_of, data_of};
 ghost use Rattle.store_reader.specs.Opening.{IsSomeStore};
 ghost use Rattle.store_reader.specs.Viewing.{placed_in};
 ghost use Rattle.store_reader.specs.StoreSlices.{document_in, IsBlockSlice};
 
+use layered_index::Checkpoint;
 use std::ops::Range;
 use store_base::{DocId, StoreError};
-use store_format::likely_read_index;
+use store_format::{likely_read_index, part};
 
 /// A block of a store: the ids of its documents, the byte of the file at which it begins, and its bytes.
 #[derive(Clone, Copy)]
@@ -52,4 +56,41 @@ impl<'a> BlockSlice<'a> {
             None => Err(StoreError::DamagedDocument(doc_id)),
         }
     }
+}
+
+/// The block of the checkpoint that an index gives for a document, in a file with this many bytes of blocks. It returns
+/// `BadIndex` where the documents or the bytes of that checkpoint can't be the block's.
+#[inline(always)]
+pub(crate) fn found_block(
+    file: &[u8],
+    data_len: usize,
+    doc_id: DocId,
+    checkpoint: Checkpoint,
+) -> Result<BlockSlice<'_>, StoreError>
+    requires data { data_len ≤ length file.now }
+    requires has { doc_id < checkpoint.doc_range.end }
+    requires order { checkpoint.byte_range.start ≤ checkpoint.byte_range.end }
+    ensures block { (s : IsSomeStore file.entry.now) → data_len ≡ length (data_of s.blocks)
+        → first_past (checkpoints_of s.blocks) doc_id ≡ Some checkpoint
+        → IsOkAnd result (λ b. (id : ℕ) → b.first ≤ id → id < b.end
+        → IsBlockSlice file.entry.now s id b.first b.end b.start b.bytes.now) }
+    ensures has { IfOk result (λ b. (b.first ≤ doc_id) × (doc_id < b.end)) }
+    ensures docs_end { IfOk result (λ b. b.end ≡ checkpoint.doc_range.end) }
+    ensures part { IfOk result (λ b. b.bytes.now
+        ≡ slice_range file.entry.now b.start (b.start + length b.bytes.now)) }
+    ensures within { IfOk result (λ b. b.start + length b.bytes.now ≤ length file.entry.now) }
+    ensures fits { IfOk result (λ b. b.start + length b.bytes.now < 2 ^ 64) }
+    ensures refused { IfErr result (λ e. e ≡ StoreError.BadIndex) }
+{
+    let docs = checkpoint.doc_range;
+    let bytes = checkpoint.byte_range;
+    if doc_id < docs.start || data_len < bytes.end {
+        return Err(StoreError::BadIndex);
+    }
+    Ok(BlockSlice {
+        first: docs.start,
+        end: docs.end,
+        start: bytes.start,
+        bytes: part(file, bytes.start, bytes.end),
+    })
 }

@@ -12,26 +12,23 @@ use std::marker::Model;
 use std::ops::Range;
 use store_base::{DocId, OwnedBytes, StoreError};
 
-/// The index of a store: how its blocks lie, how many documents they have, and how many bytes it
-/// takes in the file.
+/// The index of a store: how its blocks lie, and how many documents they have.
 #[derive(Drop)]
 pub(crate) struct StoreIndex {
     index: SkipIndex,
     num_docs: DocId,
-    len: u64,
 }
 
 impl Model for StoreIndex {
-    ghost use Rattle.std.specs.Prelude.{◌≡◌, length};
+    ghost use Rattle.std.specs.Prelude.{◌≡◌};
     ghost use Rattle.layered_index.specs.Checkpoint.{docs_end};
-    ghost use Rattle.layered_index.specs.Layers.{Index, index_part};
+    ghost use Rattle.layered_index.specs.Layers.{Index};
 
     ghost Value = { Index };
 
     ghost view = { λ s. s.index };
 
-    ghost invariant = { λ s. (s.num_docs ≡ docs_end 0 s.index.checkpoints)
-        × (s.len ≡ length (index_part s.index.period s.index.checkpoints)) };
+    ghost invariant = { λ s. s.num_docs ≡ docs_end 0 s.index.checkpoints };
 }
 
 impl StoreIndex {
@@ -50,7 +47,6 @@ impl StoreIndex {
             (λ index. (index.period ≡ period) × IsIndexOf period bytes covered index.checkpoints)
             (RefusesOnlyUnless (HasIndexOf period bytes covered)) }
     {
-        let len = bytes.len() as u64;
         let index = SkipIndex::open_with_period(alloc, bytes, period)?;
         let Some((num_docs, end)) = index.covered_to() else {
             return Err(StoreError::BadIndex);
@@ -58,11 +54,7 @@ impl StoreIndex {
         if end as u64 != covered {
             return Err(StoreError::BadIndex);
         }
-        Ok(StoreIndex {
-            index,
-            num_docs,
-            len,
-        })
+        Ok(StoreIndex { index, num_docs })
     }
 
     /// How many documents the blocks have.
@@ -83,7 +75,7 @@ impl StoreIndex {
     pub fn len(&self) -> u64
         ensures { result ≡ length (index_part self.now.period self.now.checkpoints) }
     {
-        self.len
+        self.index.byte_len() as u64
     }
 
     /// The first checkpoint whose documents end past the target.

@@ -1,10 +1,11 @@
 //! A store in a slice of bytes, read without opening: its index is not copied, and no table is made of it.
-ghost use Rattle.std.specs.Prelude.{◌≡◌, ◌≢◌, ◌≤◌, ◌<◌, ◌+◌, ◌-◌, ◌*◌, ◌^◌, ◌↔◌, ◌⊎◌, ℕ};
+ghost use Rattle.std.specs.Prelude.{◌≡◌, ◌≢◌, ◌≤◌, ◌<◌, ◌+◌, ◌-◌, ◌^◌, ◌↔◌, ◌⊎◌, ℕ};
 ghost use Rattle.std.specs.Prelude.{length, take, drop, slice_range, slice_get};
 ghost use Rattle.std.specs.Prelude.{IfOk, IfErr, IsOkAnd, IsErrOf, MatchResult, Ok, Err, Some, None, false};
 ghost use Rattle.layered_index.specs.Checkpoint.{first_past};
-ghost use Rattle.layered_index.specs.Layers.{index_part};
-ghost use Rattle.layered_index.specs.Rows.{layer_at, rows_looked_at};
+ghost use Rattle.layered_index.specs.Layers.{digit_count, index_part};
+ghost use Rattle.layered_index.specs.Rows.{layer_at, AreMarksOf};
+ghost use Rattle.store_reader.specs.IndexChecks.{BreaksIndex, IsCheckedStore};
 ghost use Rattle.store_format.specs.declared.version.DocStoreVersion.{DocStoreVersion};
 ghost use Rattle.store_format.specs.Block.{damaged};
 ghost use Rattle.store_format.specs.Footer.{version_number};
@@ -17,12 +18,14 @@ ghost use Rattle.store_reader.specs.StoreSlices.{document_in, count_of_store, Is
 ghost use Rattle.store_reader.specs.StoreSlices.{IsOutline, RefusesOne, RefusesReading};
 ghost use Rattle.store_reader.specs.StoreTails.{HasIndexIn};
 
-use crate::block_slice::BlockSlice;
+use crate::block_slice::{BlockSlice, found_block};
 use crate::block_slices::BlockSlices;
 use crate::document_reading::read_bytes;
 use crate::opening::{footer_of, index_range};
 use crate::slice_documents::SliceDocuments;
-use layered_index::{Checkpoint, IndexSlice, LayerCursor, Outline, Row, Steps};
+use crate::store_check::{CheckedStore, StoreFault};
+use crate::store_head::{NO_LAYERS, StoreHead};
+use layered_index::{IndexSlice, LayerCursor, LayerMarks, Row};
 use std::alloc::Global;
 use std::marker::Model;
 use std::ops::Range;
@@ -89,104 +92,69 @@ impl<'a> StoreSlice<'a> {
         let Some(checkpoint) = self.index.seek(doc_id)? else {
             return Err(StoreError::InvalidArgument(doc_id));
         };
-        self.found_block(doc_id, checkpoint)
+        found_block(self.file, self.data_len, doc_id, checkpoint)
     }
 
     /// Fills the front of the rows with those of the lowest layer of the index that has no more checkpoints than there
-    /// are rows, and says how many it filled and how many layers lie below that layer. It fills none where the top
-    /// layer has more. It returns `BadIndex` where it finds the index damaged, and then the rows stay.
-    pub fn outline(&self, rows: &mut [Row]) -> Result<Outline, StoreError>
+    /// are rows, and returns the numbers by which gets go on from them. It fills none where the top layer has more. It
+    /// returns `BadIndex` where it finds the index damaged, and then the rows stay.
+    pub fn outline(&self, rows: &mut [Row]) -> Result<StoreHead, StoreError>
         ensures store { (s : IsSomeStore self.now)
-            → IsOkAnd result (λ o. IsOutline self.now s o.height (take o.rows rows.new)) }
-        ensures deepest { (s : IsSomeStore self.now) → IfOk result (λ o. 0 < o.height
-            → length rows.old < length (layer_at s.period (o.height - 1) (checkpoints_of s.blocks))) }
-        ensures room { IfOk result (λ o. o.rows ≤ length rows.old) }
-        ensures rest { IfOk result (λ o. drop o.rows rows.new ≡ drop o.rows rows.old) }
+            → IsOkAnd result (λ h. IsOutline self.now s h (take h.rows rows.new)) }
+        ensures deepest { (s : IsSomeStore self.now) → IfOk result (λ h. 0 < h.lower.height
+            → length rows.old < length (layer_at s.period (h.lower.height - 1) (checkpoints_of s.blocks))) }
+        ensures room { IfOk result (λ h. h.rows ≤ length rows.old) }
+        ensures rest { IfOk result (λ h. drop h.rows rows.new ≡ drop h.rows rows.old) }
         ensures refused { IfErr result (λ e. (e ≡ StoreError.BadIndex) × (rows.new ≡ rows.old)) }
     {
-        self.index.outline(rows)
-    }
-
-    /// Finds as `block_of` does, by rows of the layer that is this many layers above the bottom one, as `outline` fills
-    /// them. It counts the rows that it looks at, and each checkpoint that it decodes: at most a period for each of
-    /// these layers. By other rows it returns a block that has the document, which may be any part of the data, or one
-    /// of the errors.
-    #[inline(always)]
-    pub fn block_by(
-        &self,
-        rows: &[Row],
-        height: usize,
-        doc_id: DocId,
-        steps: &mut Steps,
-    ) -> Result<BlockSlice<'a>, StoreError>
-        ensures block { (s : IsSomeStore self.now) → IsOutline self.now s height rows.now → MatchResult result
-            (λ b. (id : ℕ) → b.first ≤ id → id < b.end → IsBlockSlice self.now s id b.first b.end b.start b.bytes.now)
-            (λ e. (e ≡ StoreError.InvalidArgument doc_id) × (first_past (checkpoints_of s.blocks) doc_id ≡ None)) }
-        ensures most { (s : IsSomeStore self.now) → (p : ℕ) → 2 ≤ p → steps.new
-            ≤ steps.old + rows_looked_at p (length rows.now) + s.period * height }
-        ensures has { IfOk result (λ b. (b.first ≤ doc_id) × (doc_id < b.end)) }
-        ensures part { IfOk result (λ b. b.bytes.now ≡ slice_range self.now b.start (b.start + length b.bytes.now)) }
-        ensures within { IfOk result (λ b. b.start + length b.bytes.now ≤ length self.now) }
-        ensures fits { IfOk result (λ b. b.start + length b.bytes.now < 2 ^ 64) }
-        ensures refused { IfErr result (RefusesOne doc_id) }
-    {
-        let lower = self.index.below(height)?;
-        let Some(checkpoint) = lower.seek(rows, doc_id, steps)? else {
-            return Err(StoreError::InvalidArgument(doc_id));
-        };
-        self.found_block(doc_id, checkpoint)
-    }
-
-    /// Where a document lies in the file, by rows as `block_by` takes them. It returns the errors of `locate`.
-    #[inline(always)]
-    pub fn locate_by(
-        &self,
-        rows: &[Row],
-        height: usize,
-        doc_id: DocId,
-    ) -> Result<Range<usize>, StoreError>
-        ensures document { (s : IsSomeStore self.now) → IsOutline self.now s height rows.now
-            → placed_in self.now result ≡ document_in self.now s doc_id }
-        ensures order { IfOk result (λ r. r.start ≤ r.end) }
-        ensures within { IfOk result (λ r. r.end ≤ length self.now) }
-        ensures refused { IfErr result (RefusesOne doc_id) }
-    {
-        let mut steps = Steps::new();
-        self.block_by(rows, height, doc_id, &mut steps)?
-            .locate(doc_id)
-    }
-
-    // The block of the checkpoint that the index gives for a document. It returns `BadIndex` where the documents or the
-    // bytes of that checkpoint can't be the block's.
-    #[inline(always)]
-    fn found_block(
-        &self,
-        doc_id: DocId,
-        checkpoint: Checkpoint,
-    ) -> Result<BlockSlice<'a>, StoreError>
-        requires has { doc_id < checkpoint.doc_range.end }
-        requires order { checkpoint.byte_range.start ≤ checkpoint.byte_range.end }
-        ensures block { (s : IsSomeStore self.now) → first_past (checkpoints_of s.blocks) doc_id ≡ Some checkpoint
-            → IsOkAnd result (λ b. (id : ℕ) → b.first ≤ id → id < b.end
-            → IsBlockSlice self.now s id b.first b.end b.start b.bytes.now) }
-        ensures has { IfOk result (λ b. (b.first ≤ doc_id) × (doc_id < b.end)) }
-        ensures docs_end { IfOk result (λ b. b.end ≡ checkpoint.doc_range.end) }
-        ensures part { IfOk result (λ b. b.bytes.now ≡ slice_range self.now b.start (b.start + length b.bytes.now)) }
-        ensures within { IfOk result (λ b. b.start + length b.bytes.now ≤ length self.now) }
-        ensures fits { IfOk result (λ b. b.start + length b.bytes.now < 2 ^ 64) }
-        ensures refused { IfErr result (λ e. e ≡ StoreError.BadIndex) }
-    {
-        let docs = checkpoint.doc_range;
-        let bytes = checkpoint.byte_range;
-        if doc_id < docs.start || self.data_len < bytes.end {
-            return Err(StoreError::BadIndex);
-        }
-        Ok(BlockSlice {
-            first: docs.start,
-            end: docs.end,
-            start: bytes.start,
-            bytes: part(self.file, bytes.start, bytes.end),
+        let outline = self.index.outline(rows)?;
+        Ok(StoreHead {
+            data_len: self.data_len,
+            rows: outline.rows,
+            lower: self.lower_marks(outline.height),
+            period: self.index.period(),
         })
+    }
+
+    // Where the lowest layers of the index lie. It gives `NO_LAYERS` in place of an error, since the rows are filled
+    // by then.
+    fn lower_marks(&self, height: usize) -> LayerMarks
+        ensures { (s : IsSomeStore self.now) → height ≤ digit_count s.period (length (checkpoints_of s.blocks))
+            → (result.height ≡ height) × AreMarksOf s.period
+            (index_part s.period (checkpoints_of s.blocks)) (checkpoints_of s.blocks) result }
+    {
+        match self.index.marks(height) {
+            Ok(marks) => marks,
+            Err(_) => NO_LAYERS,
+        }
+    }
+
+    /// Checks that the index is that of checkpoints in line that cover the data: each layer is decoded once. It takes
+    /// no memory, and returns where the index first breaks a rule. It writes the rows of all blocks over the front of
+    /// the rows, as many as there is room for, without their guides.
+    pub fn check(&self, rows: &mut [Row]) -> Result<CheckedStore, StoreFault>
+        ensures checked { IfOk result (λ x. IsCheckedStore self.now x rows.old rows.new) }
+        ensures broken { IfErr result (λ fault. (IsSomeStore self.now → ⊥)
+            × BreaksIndex self.now fault.start fault.index) }
+        ensures first { IfErr result (λ _. Finds self.now (Err StoreError.BadIndex)) }
+    {
+        let start = self.data_len;
+        let index = match self.index.check(rows) {
+            Ok(index) => index,
+            Err(fault) => {
+                return Err(StoreFault {
+                    start,
+                    index: Some(fault),
+                });
+            }
+        };
+        match index.covered {
+            Some((docs, end)) if end == start => Ok(CheckedStore {
+                blocks: index.count,
+                docs,
+            }),
+            _ => Err(StoreFault { start, index: None }),
+        }
     }
 
     /// Where a document lies in the file. It takes no memory. It returns `InvalidArgument` where there is no such
@@ -316,7 +284,7 @@ impl<'a> StoreSlice<'a> {
         let Some((checkpoint, checkpoints)) = self.index.seek_on(doc_id)? else {
             return Err(StoreError::InvalidArgument(doc_id));
         };
-        let block = self.found_block(doc_id, checkpoint)?;
+        let block = found_block(self.file, self.data_len, doc_id, checkpoint)?;
         let blocks = BlockSlices::new(self.file, self.data_len, block.end, checkpoints);
         Ok((block, blocks))
     }

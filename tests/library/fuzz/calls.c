@@ -86,6 +86,33 @@ static void read_elsewhere(const uint8_t *file, size_t len, size_t tail_len, uin
     }
 }
 
+/* A place lies within the file, or the error is one of a document or of the index. */
+static void is_bounded(uint32_t error, zevk_place place, size_t len) {
+    WANT(error == ZEVK_DONE || error == ZEVK_NO_DOCUMENT || error == ZEVK_DAMAGED_DOCUMENT || error == ZEVK_BAD_INDEX);
+    WANT(error != ZEVK_DONE || (place.start <= len && place.len <= len - place.start));
+}
+
+/* Documents by an outline of this many rows: as by zevk_get in a store's file. */
+static void read_by_outline(const uint8_t *file, size_t len, size_t room, int is_store) {
+    zevk_block *rows = (zevk_block *)(void *)last(tables, room * sizeof *rows, NULL);
+    zevk_head head;
+    uint32_t error = zevk_outline(file, len, rows, room, &head);
+    WANT(error == ZEVK_DONE || !is_store);
+    if (error != ZEVK_DONE) {
+        return;
+    }
+    WANT(head.rows <= room);
+    for (uint32_t id = 0; id < 6; id++) {
+        zevk_place place = {1, 2}, same = {1, 2};
+        error = zevk_get_by(file, len, rows, head.rows, &head, id * id * id, &place);
+        is_bounded(error, place, len);
+        if (is_store) {
+            WANT(zevk_get(file, len, id * id * id, &same) == error);
+            WANT(place.start == same.start && place.len == same.len);
+        }
+    }
+}
+
 /* Every call that reads, beside each other. */
 static void read_file(input from) {
     const uint8_t *file = last(files, from.len, from.at);
@@ -98,6 +125,9 @@ static void read_file(input from) {
         for (uint32_t id = 0; id < 4; id++) {
             read_elsewhere(file, from.len, tails[at], id * id * id, error == ZEVK_DONE);
         }
+    }
+    for (size_t room = 0; room <= ROWS; room += 1 + room) {
+        read_by_outline(file, from.len, room, error == ZEVK_DONE);
     }
 }
 
@@ -189,6 +219,22 @@ static void write_store(input from) {
     }
 }
 
+/* A get by rows and a head of any value. */
+static void get_by_any(input *from, const zevk_block *rows, uint32_t id) {
+    zevk_place place;
+    zevk_head head;
+    head.data_len = next_number(from);
+    head.rows = next_number(from);
+    head.height = next_number(from);
+    head.place = next_number(from);
+    head.ends = next_number(from);
+    head.texts = next_number(from);
+    head.period = next_byte(from);
+    const uint8_t *file = last(files, from->len, from->at);
+    uint32_t error = zevk_get_by(file, from->len, rows, ROWS, &head, id, &place);
+    is_bounded(error, place, from->len);
+}
+
 /* Numbers, rows and starts of any value: each call ends, and keeps within what it was given. */
 static void misuse(input from) {
     arrays to = arrays_of(next_number(&from));
@@ -206,12 +252,13 @@ static void misuse(input from) {
     uint32_t id = (uint32_t)next_number(&from);
     uint8_t period = next_byte(&from), call = next_byte(&from);
     const uint8_t *file = last(files, from.len, from.at);
-    switch (call % 6) {
+    switch (call % 7) {
     case 0: zevk_writer_put(&to.writer, to.starts, STARTS, to.table, ROWS, next_number(&from), &count); break;
     case 1: zevk_writer_end_block(&to.writer, to.starts, STARTS, to.table, ROWS, &count); break;
     case 2: zevk_writer_stack(&to.writer, to.table, ROWS, file, from.len, &count, &len); break;
     case 3: zevk_writer_close(&to.writer, to.table, ROWS, period, last(ends, period, NULL), period, &len); break;
     case 4: zevk_locate(file, from.len, to.table, ROWS, id, &place); break;
+    case 5: get_by_any(&from, to.table, id); break;
     default: zevk_locate_run(file, from.len, to.table, ROWS, id, run, RUN, &count);
     }
 }

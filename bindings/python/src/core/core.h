@@ -25,7 +25,7 @@ typedef struct reader {
     size_t len;          /* how many these are; 0 if it was closed */
     zevk_block *rows;    /* rows of one layer of the index */
     size_t rows_len;     /* how many rows there are; 0 if it was closed */
-    size_t height;       /* how many layers lie below; at 0 there is a row for each block */
+    zevk_head head;      /* the numbers of an outline; its height is 0 if there is a row for each block */
     uint32_t count;      /* how many documents there are; 0 if it was closed */
     size_t size;         /* how many bytes there were when it was opened */
     size_t blocks;       /* how many blocks there were, if the index was checked */

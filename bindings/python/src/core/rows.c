@@ -55,8 +55,9 @@ uint32_t fill_outline(reader *self) {
     if (!reserve(self, OUTLINE)) {
         return ZEVK_NO_MEMORY;
     }
-    uint32_t answer = zevk_outline(self->file, self->len, self->rows, OUTLINE, &self->rows_len, &self->height);
+    uint32_t answer = zevk_outline(self->file, self->len, self->rows, OUTLINE, &self->head);
     if (answer == 0) {
+        self->rows_len = self->head.rows;
         answer = zevk_num_docs(self->file, self->len, &self->count);
     }
     return answer ? answer : shrink(self);
@@ -68,15 +69,15 @@ static uint32_t of_counted(uint32_t answer) {
 }
 
 uint32_t find_place(const reader *self, uint32_t number, zevk_place *place) {
-    if (self->height) {
+    if (self->head.height) {
         return of_counted(
-            zevk_get_by(self->file, self->len, self->rows, self->rows_len, self->height, number, place));
+            zevk_get_by(self->file, self->len, self->rows, self->rows_len, &self->head, number, place));
     }
     return of_counted(zevk_locate(self->file, self->len, self->rows, self->rows_len, number, place));
 }
 
 uint32_t find_places(const reader *self, uint32_t first, zevk_place *places, size_t places_len, size_t *count) {
-    if (self->height) {
+    if (self->head.height) {
         return of_counted(zevk_get_run(self->file, self->len, first, places, places_len, count));
     }
     return of_counted(

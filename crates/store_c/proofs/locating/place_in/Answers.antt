@@ -14,4 +14,4 @@ returns-in-Some c table held =
 pub returns-in-None : goal.returns-in-None
 returns-in-None c table held known =
     let is = rw c.part-block.ensures at c.in-None.ensures.slot in
-    has _ known.view known.of _ c.args.block.now _ (held.sought known c.args.doc_id c.requires.from c.requires.to) is
+    has _ known.store _ c.args.block.now _ (held.sought known c.args.doc_id c.requires.from c.requires.to) is

@@ -28,7 +28,7 @@ returns-then-room-places-clause-next c =
     let size = c.loop-at.invariant.size in (
       omega arith,
       λ known.
-          let count = c.docs_of.ensures (checkpoints_of known.view.store) known.ends in
-          let past : docs_end 0 (checkpoints_of known.view.store) ≤ c.args.first + c.min-room.result = omega arith in
-          has_past c.args.file.now known.view known.of _ past,
+          let count = c.docs_of.ensures (checkpoints_of known.store.blocks) known.rows in
+          let past : docs_end 0 (checkpoints_of known.store.blocks) ≤ c.args.first + c.min-room.result = omega arith in
+          has_past c.args.file.now known.store _ past,
     )

@@ -11,4 +11,4 @@ returns-in_err-range c =
 pub returns : goal.returns
 returns c =
     let r = c.in_ok-range in
-    is_place_by c.args.store.now c.args.rows.now c.args.height c.args.doc_id r.range.start r.range.end r.ensures.order r.ensures.within r.ensures.document
+    is_place_by c.args.file.now c.args.head.now c.args.rows.now c.args.doc_id r.range.start r.range.end r.ensures.order r.ensures.within r.ensures.document

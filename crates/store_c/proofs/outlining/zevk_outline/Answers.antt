@@ -1,9 +1,6 @@
-use Rattle.std.proofs.Common.{ℕ, ◌<◌, ◌-◌, List, length, take, inr, ap, ◌∙◌, subst}
+use Rattle.std.proofs.Common.{ℕ, ◌-◌, List, inr, ap, ◌∙◌, subst}
 use Rattle.store_base.specs.Outcome.{number_of}
-use Rattle.layered_index.specs.Rows.{layer_at}
-use Rattle.store_format.specs.StoreFile.{checkpoints_of}
 use Rattle.store_reader.specs.Opening.{IsSomeStore}
-use Rattle.store_reader.specs.StoreSlices.{IsOutline}
 use Rattle.store_c.proofs.FirstRefusalLemmas.{head_first, no_index_in}
 use Rattle.store_c.proofs.outlining.zevk_outline.Goals as goal
 
@@ -11,15 +8,10 @@ pub returns-in-Err-clause-head : goal.returns-in-Err-clause-head
 returns-in-Err-clause-head c number head = c.number.ensures ∙ head_first c.args.file.now number c.in-Err.error head c.in-Err.ensures.found c.in-Err.ensures.causes
 
 pub returns-in-Ok-outline-clause-done : goal.returns-in-Ok-outline-clause-done
-returns-in-Ok-outline-clause-done c done =
-    let o = c.in-Ok-outline.outline in
-    subst (λ (b : List ℕ). (s : IsSomeStore b) → IsOutline b s o.height (take o.rows c.outline.new.rows)) c.in-Ok.ensures.ok c.in-Ok-outline.ensures.store
+returns-in-Ok-outline-clause-done c done = rw c.in-Ok.ensures.ok at c.in-Ok-outline.ensures.store
 
 pub returns-in-Ok-outline-clause-deepest : goal.returns-in-Ok-outline-clause-deepest
-returns-in-Ok-outline-clause-deepest c done =
-    let o = c.in-Ok-outline.outline in
-    subst (λ (b : List ℕ). (s : IsSomeStore b) → 0 < o.height → length c.args.rows.now < length (layer_at s.period (o.height - 1) (checkpoints_of s.blocks))) c.in-Ok.ensures.ok
-    c.in-Ok-outline.ensures.deepest
+returns-in-Ok-outline-clause-deepest c done = rw c.in-Ok.ensures.ok at c.in-Ok-outline.ensures.deepest
 
 pub returns-in-Ok-outline-clause-head : goal.returns-in-Ok-outline-clause-head
 returns-in-Ok-outline-clause-head c number head = absurd (no_index_in _ c.args.file.now number head c.in-Ok.ensures.index)

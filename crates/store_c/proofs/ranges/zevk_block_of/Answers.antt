@@ -31,7 +31,8 @@ returns-in-Err-Store-clause-head c number long few head =
 pub returns-in-Err-Store-clause-no_store : goal.returns-in-Err-Store-clause-no_store
 returns-in-Err-Store-clause-no_store c none six short file t =
     let refused : RefusesTail c.args.file_len c.args.tail.now c.in-Err-Store.error = rw c.in-Err-Store.field-0-is at c.in-Err-Store.ensures.refused in
-    subst (RefusesUnopened file) (sym c.number-in-Err-Store.ensures) (unopened c.args.file_len c.args.tail.now c.in-Err-Store.error refused file t)
+    let causes = rw c.in-Err-Store.field-0-is at c.in-Err-Store.ensures.causes in
+    subst (RefusesUnopened file) (sym c.number-in-Err-Store.ensures) (unopened c.args.file_len c.args.tail.now c.in-Err-Store.error refused (λ m. causes (ap Store m)) file t)
 
 pub returns-in-Ok-block_of-clause-done : goal.returns-in-Ok-block_of-clause-done
 returns-in-Ok-block_of-clause-done c done =

@@ -6,4 +6,4 @@ pub returns-clause-steps : goal.returns-clause-steps
 returns-clause-steps c =
     let s = c.self.inside in
     let left : s.next < s.end = omega arith in
-    sym c.self.view_is ∙ range_at s.tables.now s.next s.end c.get-checkpoint.result left c.get-checkpoint.ensures
+    sym c.self.view_is ∙ range_at s.index.now.checkpoints s.next s.end c.at-checkpoint.result left c.at-checkpoint.ensures

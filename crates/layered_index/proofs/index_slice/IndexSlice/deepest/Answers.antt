@@ -1,13 +1,12 @@
-use Rattle.std.proofs.Common.{◌≡◌, ◌<◌, ◌-◌, ◌^◌, ℕ, inl, inr, List, [], length, Some, refl, sym, ◌∙◌, ap, subst, arith}
-use Rattle.std.proofs.lemmas.Bool.{eqb-false, cases_lt}
+use Rattle.std.proofs.Common.{◌≡◌, ◌<◌, ◌^◌, ℕ, List, [], length, Some, refl, sym, subst, arith}
+use Rattle.std.proofs.lemmas.Bool.{eqb-false}
+use Rattle.layered_index.specs.declared.outline.LayerEnd.{LayerEnd}
 use Rattle.layered_index.specs.LayerReading.{items}
-use Rattle.layered_index.specs.Rows.{IsDeepest, layer_at, lower_texts}
+use Rattle.layered_index.specs.Rows.{IsDeepest, lower_texts}
 use Rattle.layered_index.specs.Sought.{IndexBytes, IsHeaded, layers_left}
-use Rattle.layered_index.proofs.CursorLemmas.{items_none}
-use Rattle.layered_index.proofs.WalkLemmas.{not_true}
 use Rattle.layered_index.proofs.IndexHeadLemmas.{head_few, none_left}
 use Rattle.layered_index.proofs.LowerLemmas.{lower_there}
-use Rattle.layered_index.proofs.OutlineLemmas.{passed_none, passed_next, passed_last, next_items}
+use Rattle.layered_index.proofs.OutlineLemmas.{EndsBelow, room_first, room_next, passed_last, next_is_longer}
 use Rattle.layered_index.proofs.index_slice.IndexSlice.deepest.Goals as goal
 
 -- the head of the bytes that are seen
@@ -23,41 +22,43 @@ loop-left-init c =
     let v = c.args.self.now in
     record {
       few = head_few _ _ _ c.self.invariant.counted;
-      fits = omega (arith, ap length (items_none 0 0));
-      passed = λ cs is. passed_none v.period v.bytes s.count s.ends.now s.texts.now [] cs (headed _ _ s.count s.ends.now s.texts.now c.self.view_is c.self.invariant)
+      passed = λ cs is. room_first v.period c.args.room v.bytes s.count s.ends.now s.texts.now [] cs (headed _ _ s.count s.ends.now s.texts.now c.self.view_is c.self.invariant)
           (fit_in _ _ c.self.view_is (omega arith)) is refl;
     }
 
 pub returns-in_default-clause-answer : goal.returns-in_default-clause-answer
 returns-in_default-clause-answer c cs is =
     let l = c.loop-left in
-    absurd (lower_there c.args.self.now.period l.left l.place l.ends.now l.texts.now cs c.loop-left-test.true (l.invariant.passed cs is).lower (sym c.in_default.ensures))
+    absurd (lower_there c.args.self.now.period l.left l.place l.ends.now l.texts.now cs c.loop-left-test.true (l.invariant.passed cs is).passed.lower (sym c.in_default.ensures))
 
-pub returns-then-not-fit-clause-answer : goal.returns-then-not-fit-clause-answer
-returns-then-not-fit-clause-answer c cs is =
+-- how the next layer ends, by the period that is seen
+below : (u v : IndexBytes) (layer : List ℕ) (above last : LayerEnd) → u ≡ v → EndsBelow u.period layer above last → EndsBelow v.period layer above last
+below u v layer above last e h = subst (λ (w : IndexBytes). EndsBelow w.period layer above last) e h
+
+pub returns-then-layer_end-room-clause-answer : goal.returns-then-layer_end-room-clause-answer
+returns-then-layer_end-room-clause-answer c cs is =
     let s = c.self.inside in
     let v = c.args.self.now in
     let l = c.loop-left in
     let head = headed _ _ s.count s.ends.now s.texts.now c.self.view_is c.self.invariant in
     let fits = fit_in _ _ c.self.view_is (omega arith) in
-    let next = next_items v.period v.bytes l.left l.place l.ends.now l.texts.now l.deepest.now c.in-Some.layer.now c.in-Some.end c.in-Some.more_ends.now c.in-Some.more.now cs head.two head.few fits is
-    c.loop-left-test.true (l.invariant.passed cs is) (sym c.in-Some.ensures) in
-    let more : c.args.room < length (layer_at v.period (l.left - 1) cs) = elim (cases_lt c.args.room (length (layer_at v.period (l.left - 1) cs))) [
-      | inl lt ↦ lt
-      | inr le ↦ absurd (not_true ⊥ (sym c.if-not-fit.true ∙ c.fit.ensures.1 (omega (arith, le, ap length next, ap length c.new.ensures))))
-    ] in
-    passed_last v.period c.args.room v.bytes l.left l.place l.ends.now l.texts.now l.deepest.now cs head.two head.few fits is (l.invariant.passed cs is) (λ _. more)
+    let longer = next_is_longer v.period c.args.room v.bytes l.left l.place l.ends.now l.texts.now l.deepest.now c.in-Some.layer.now c.in-Some.end c.in-Some.more_ends.now c.in-Some.more.now
+    l.layer_end c.end_below-layer_end.result cs head.two head.few fits is c.loop-left-test.true (l.invariant.passed cs is) (sym c.in-Some.ensures)
+    (below _ _ _ _ _ c.self.view_is c.end_below-layer_end.ensures) c.if-layer_end-room.true in
+    passed_last v.period c.args.room v.bytes l.left l.place l.ends.now l.texts.now l.deepest.now l.layer_end cs head.two head.few fits is (l.invariant.passed cs is) (λ _. longer)
 
 pub loop-left-preserved : goal.loop-left-preserved
 loop-left-preserved c =
+    let s = c.self.inside in
+    let v = c.args.self.now in
     let l = c.loop-left in
+    let head = headed _ _ s.count s.ends.now s.texts.now c.self.view_is c.self.invariant in
+    let fits = fit_in _ _ c.self.view_is (omega arith) in
     record {
       few = omega (arith, l.invariant.few);
-      fits = omega (arith, c.fit.ensures.0 c.if-not-fit.false, ap length c.new.ensures);
-      passed = λ cs is. passed_next c.args.self.now.period l.left l.place l.ends.now l.texts.now l.deepest.now c.in-Some.layer.now c.in-Some.end c.in-Some.more_ends.now c.in-Some.more.now cs
-          c.loop-left-test.true
-          (l.invariant.passed cs is)
-          (sym c.in-Some.ensures);
+      passed = λ cs is. room_next v.period c.args.room v.bytes l.left l.place l.ends.now l.texts.now l.deepest.now c.in-Some.layer.now c.in-Some.end c.in-Some.more_ends.now c.in-Some.more.now
+          l.layer_end c.end_below-layer_end.result cs head.two head.few fits is c.loop-left-test.true (l.invariant.passed cs is) (sym c.in-Some.ensures)
+          (below _ _ _ _ _ c.self.view_is c.end_below-layer_end.ensures) c.if-layer_end-room.false;
     }
 
 pub returns-then-not-is_empty-clause-answer : goal.returns-then-not-is_empty-clause-answer
@@ -65,7 +66,7 @@ returns-then-not-is_empty-clause-answer c cs is =
     let v = c.args.self.now in
     let l = c.loop-left in
     let none : l.left ≡ 0 = omega (arith, c.loop-left-test.false) in
-    let left = subst (λ (n : ℕ). layers_left n l.place l.ends.now l.texts.now ≡ Some (lower_texts v.period n cs)) none (l.invariant.passed cs is).lower in
+    let left = subst (λ (n : ℕ). layers_left n l.place l.ends.now l.texts.now ≡ Some (lower_texts v.period n cs)) none (l.invariant.passed cs is).passed.lower in
     absurd (eqb-false (length l.texts.now) 0 (sym c.if-not-is_empty.ensures) (none_left l.place l.ends.now l.texts.now (lower_texts v.period 0 cs) left).1)
 
 pub returns-clause-answer : goal.returns-clause-answer
@@ -77,4 +78,5 @@ returns-clause-answer c cs is =
     let head = headed _ _ s.count s.ends.now s.texts.now c.self.view_is c.self.invariant in
     let fits = fit_in _ _ c.self.view_is (omega arith) in
     subst (λ (n : ℕ). IsDeepest v.period c.args.room cs n (items 0 0 0 l.deepest.now)) none
-    (passed_last v.period c.args.room v.bytes l.left l.place l.ends.now l.texts.now l.deepest.now cs head.two head.few fits is (l.invariant.passed cs is) (λ some. absurd (omega (arith, some, none))))
+    (passed_last v.period c.args.room v.bytes l.left l.place l.ends.now l.texts.now l.deepest.now l.layer_end cs head.two head.few fits is
+    (l.invariant.passed cs is) (λ some. absurd (omega (arith, some, none))))

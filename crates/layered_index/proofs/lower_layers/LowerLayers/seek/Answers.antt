@@ -38,4 +38,11 @@ returns-clause-answer c cs line is are =
     let s = c.self.inside in
     let rows = has_rows _ _ s.place s.ends.now s.texts.now cs c.args.rows.now c.self.view_is refl c.self.invariant.0 c.self.invariant.1 (omega arith)
     c.if-is_empty.ensures line is are in
-    c.descend-2.ensures.answer cs (in_line_from 0 0 cs line) is (sym (c.in-Some.ensures.answer (layer_at c.args.self.now.period c.args.self.now.height cs) rows.are rows.line))
+    answer_is _ _ (c.in_ok-descend-2.ensures.answer cs (in_line_from 0 0 cs line) is (sym (c.in-Some.ensures.answer (layer_at c.args.self.now.period c.args.self.now.height cs) rows.are rows.line)))
+
+pub returns-in_err-descend-2-clause-answer : goal.returns-in_err-descend-2-clause-answer
+returns-in_err-descend-2-clause-answer c cs line is are =
+    let s = c.self.inside in
+    let rows = has_rows _ _ s.place s.ends.now s.texts.now cs c.args.rows.now c.self.view_is refl c.self.invariant.0 c.self.invariant.1 (omega arith)
+    c.if-is_empty.ensures line is are in
+    absurd (c.in_err-descend-2.ensures.answer cs (in_line_from 0 0 cs line) is (sym (c.in-Some.ensures.answer (layer_at c.args.self.now.period c.args.self.now.height cs) rows.are rows.line)))

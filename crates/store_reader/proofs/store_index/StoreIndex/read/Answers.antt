@@ -1,7 +1,6 @@
-use Rattle.std.proofs.Common.{ℕ, length, refl, sym, ap, ◌∙◌, subst, inl}
+use Rattle.std.proofs.Common.{ℕ, refl, sym, ◌∙◌, subst, inl}
 use Rattle.std.proofs.lemmas.Option.{none-some}
 use Rattle.layered_index.specs.Checkpoint.{Covers}
-use Rattle.layered_index.specs.Layers.{index_part}
 use Rattle.store_reader.proofs.CoveringLemmas.{IsCovered, some_pair, covers_by, not_covered}
 use Rattle.store_reader.proofs.store_index.StoreIndex.read.Goals as goal
 
@@ -10,11 +9,7 @@ passed : (c : goal.Else-end-covered) → IsCovered c.in_ok-index.index.checkpoin
 passed c = covers_by c.in_ok-index.index.checkpoints c.in-Some.num_docs c.in-Some.end c.in_ok-index.ensures.ok.1.0 (sym c.in-Some.ensures)
 
 pub invariant_of-result : goal.invariant_of-result
-invariant_of-result c =
-    let ok = c.in_ok-index.ensures.ok in (
-      sym (passed c).count,
-      c.len-len.ensures ∙ ap length ok.1.1 ∙ ap (λ (p : ℕ). length (index_part p c.in_ok-index.index.checkpoints)) (sym ok.0),
-    )
+invariant_of-result c = sym (passed c).count
 
 pub returns-in_default : goal.returns-in_default
 returns-in_default c =

@@ -1,7 +1,7 @@
-use Rattle.std.proofs.Common.{◌≡◌, ℕ, ◌-◌, List, length, ◌∙◌, arith}
+use Rattle.std.proofs.Common.{◌≡◌, ℕ, ◌-◌, List, length, refl, ◌∙◌, arith}
 use Rattle.std.specs.Prelude.{slice_range}
 use Rattle.std.proofs.lemmas.Result.{err_from_is_err_and}
-use Rattle.store_reader.proofs.StoreSliceLemmas.{laid_out, footer_no_store, offset_no_store, index_no_store, finds_no_index}
+use Rattle.store_reader.proofs.StoreSliceLemmas.{footer_no_store, offset_no_store, index_no_store, finds_no_index}
 use Rattle.store_reader.proofs.store_slice.StoreSlice.new.Goals as goal
 
 -- a part of a file, by where it begins and ends
@@ -36,11 +36,13 @@ invariant_of-result c =
     let f = c.in_ok-footer.footer in
     let bytes = c.args.file.now in
     let part : c.part.result.now ≡ slice_range bytes f.offset (length bytes - 28) = part_is bytes c.part.result.now _ _ _ _ c.in_ok-range.ensures.start c.in_ok-range.ensures.end c.part.ensures in
-    let is : c.in_ok-index.index ≡ record { period = f.period; bytes = slice_range bytes f.offset (length bytes - 28) } = c.in_ok-index.ensures.ok
-    ∙ (λ i. record { period = f.period; bytes = part i }) in
     rw c.in_ok-range.ensures.start (record {
+      footer = f;
+      reads = c.in_ok-footer.ensures.found;
       within = omega (arith, c.in_ok-range.ensures.order, c.in_ok-footer.ensures.long);
-      laid_out = laid_out bytes f c.in_ok-index.index c.in_ok-footer.ensures.long c.in_ok-footer.ensures.found is;
+      data_is = refl;
+      index_is = c.in_ok-index.ensures.ok ∙ (λ i. record { period = f.period; bytes = part i });
+      version_is = refl;
     })
 
 pub returns-clause-index : goal.returns-clause-index

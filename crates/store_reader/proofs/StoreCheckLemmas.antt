@@ -1,0 +1,109 @@
+-- What the check of a store's index finds.
+use Rattle.std.proofs.Common.{◌≡◌, ℕ, ◌-◌, ◌≤◌, List, length, take, drop, Option, Some, None, refl, sym, ap, ◌∙◌, subst, arith}
+use Rattle.std.specs.Prelude.{Ok, Err, slice_range}
+use Rattle.store_base.specs.declared.error.StoreError.TheVariants.{BadIndex}
+use Rattle.layered_index.specs.declared.check.CheckedIndex.{CheckedIndex}
+use Rattle.layered_index.specs.declared.checkpoint.Checkpoint.{Checkpoint}
+use Rattle.layered_index.specs.declared.index_fault.IndexFault.{IndexFault}
+use Rattle.layered_index.specs.declared.row.Row.{Row}
+use Rattle.layered_index.specs.Checkpoint.{Covers}
+use Rattle.layered_index.specs.Tallies.{IsChecked}
+use Rattle.layered_index.specs.IndexReading.{IsIndexPart}
+use Rattle.layered_index.specs.Layers.{index_part}
+use Rattle.layered_index.specs.Rows.{AreRowsOf}
+use Rattle.layered_index.specs.Sought.{IndexBytes}
+use Rattle.store_format.specs.declared.version.DocStoreVersion.{DocStoreVersion}
+use Rattle.store_format.specs.Footer.{version_number}
+use Rattle.store_format.specs.StoreFile.{blocks_at, checkpoints_of}
+use Rattle.store_format.proofs.FileLemmas.{known_period}
+use Rattle.store_format.proofs.StoreLemmas.{checkpoints_cover}
+use Rattle.store_reader.specs.Covering.{IsIndexOf, HasIndexOf}
+use Rattle.store_reader.specs.IndexChecks.{IsCheckOf, BreaksIndex, IsCheckedStore}
+use Rattle.store_reader.specs.Opening.{IsSomeStore}
+use Rattle.store_reader.specs.StoreSlices.{IsStoreSlice}
+use Rattle.store_reader.specs.Viewing.{IsView, Finds, data_in}
+use Rattle.store_reader.proofs.CoveringLemmas.{covers_by, not_covered}
+use Rattle.store_reader.proofs.FoundLemmas.{view_is}
+use Rattle.store_reader.proofs.StoreSliceLemmas.{found_tail, finds_bad_index, index_by_footer, slice_laid}
+use Rattle.store_reader.proofs.ViewLemmas.{checkpoints_are, count_is}
+
+-- ---- a store
+
+-- the index of checkpoints that cover the data is found
+found_index : (bytes : List ℕ) (data_len : ℕ) (index : IndexBytes) (version : DocStoreVersion) (cs : List Checkpoint) (is : IsStoreSlice bytes data_len index version)
+    → IsIndexPart index.period index.bytes cs → Covers cs data_len → Finds bytes (Ok (is.footer, record { period = is.footer.period; checkpoints = cs }))
+found_index bytes data_len index version cs is part covers =
+    let low = is.within in let at = is.data_is in
+    let of : IsIndexOf is.footer.period (slice_range bytes is.footer.offset (length bytes - 28)) is.footer.offset cs = record {
+      covers = subst (λ (n : ℕ). Covers cs n) is.data_is covers;
+      spells = subst (λ (u : IndexBytes). u.bytes ≡ index_part u.period cs) (index_by_footer bytes data_len index version is) part.1;
+    } in
+    record { footer = Ok is.footer; reads = is.reads; goes_on = (refl, record { past = λ past. absurd (omega arith); within = λ _. (refl, of) }) }
+
+-- the rows of the checkpoints, by their number
+rows_of : (cs ds : List Checkpoint) (count : ℕ) (before after : List Row) → ds ≡ cs → count ≡ length cs → AreRowsOf (take (length before) cs) (take (length cs) after)
+    → AreRowsOf (take (length before) ds) (take count after)
+rows_of cs ds count before after same is rows =
+    subst (λ (xs : List Checkpoint). AreRowsOf (take (length before) xs) (take count after)) (sym same)
+    (subst (λ (n : ℕ). AreRowsOf (take (length before) cs) (take n after)) (sym is) rows)
+
+pub checked_store : (bytes : List ℕ) (data_len : ℕ) (index : IndexBytes) (version : DocStoreVersion) (x : CheckedIndex) (docs : ℕ) (before after : List Row) → IsStoreSlice bytes data_len index version
+    → IsChecked index.period index.bytes x before after → x.covered ≡ Some (docs, data_len) → IsCheckedStore bytes (record { blocks = x.count; docs = docs }) before after
+checked_store bytes data_len index version x docs before after is checked covered =
+    let cs = checked.cs in
+    let f = is.footer in
+    let covers = covers_by cs docs data_len checked.is.0 (sym checked.covered ∙ covered) in
+    let view : IsView bytes cs f.period f.doc_store_version = view_is bytes f (record { period = f.period; checkpoints = cs })
+    (found_index bytes data_len index version cs is checked.is covers.covers) in
+    let same = checkpoints_are bytes cs f.period f.doc_store_version view in
+    record {
+      store = record { period = f.period; version = version_number f.doc_store_version; blocks = blocks_at cs (data_in bytes cs); store = view.store };
+      blocks = checked.count ∙ ap length (sym same);
+      docs = sym covers.count ∙ count_is bytes cs f.period f.doc_store_version view;
+      rows = rows_of cs (checkpoints_of (blocks_at cs (data_in bytes cs))) x.count before after same checked.count checked.rows;
+      rest = subst (λ (n : ℕ). drop n after ≡ drop n before) (sym checked.count) checked.rest;
+    }
+
+-- ---- no store
+
+pub breaks_index : (bytes : List ℕ) (data_len : ℕ) (index : IndexBytes) (version : DocStoreVersion) (fault : Option IndexFault) → IsStoreSlice bytes data_len index version
+    → IsCheckOf index.period index.bytes fault → BreaksIndex bytes data_len fault
+breaks_index bytes data_len index version fault is found =
+    let low = is.within in
+    record {
+      footer = is.footer;
+      reads = is.reads;
+      starts = is.data_is;
+      within = omega arith;
+      found = subst (λ (u : IndexBytes). IsCheckOf u.period u.bytes fault) is.index_is found;
+    }
+
+-- a file without an index that covers the data is no store's, and found so
+pub no_store : (bytes : List ℕ) (data_len : ℕ) (index : IndexBytes) (version : DocStoreVersion) → IsStoreSlice bytes data_len index version
+    → (HasIndexOf index.period index.bytes data_len → ⊥) → IsSomeStore bytes → ⊥
+no_store bytes data_len index version is none s =
+    let laid = slice_laid bytes data_len index version is s in
+    let cs = checkpoints_of s.blocks in
+    let of : IsIndexOf index.period index.bytes data_len cs = record {
+      covers = subst (λ (n : ℕ). Covers cs n) (sym laid.data_is) (checkpoints_cover s.blocks s.store.blocks);
+      spells = laid.index_is ∙ ap (λ (p : ℕ). index_part p cs) (sym laid.period_is);
+    } in
+    none (cs, of)
+
+found_bad : (bytes : List ℕ) (data_len : ℕ) (index : IndexBytes) (version : DocStoreVersion) → IsStoreSlice bytes data_len index version
+    → (HasIndexOf index.period index.bytes data_len → ⊥) → Finds bytes (Err BadIndex)
+found_bad bytes data_len index version is none =
+    let low = is.within in let at = is.data_is in
+    finds_bad_index bytes is.footer is.reads (omega arith)
+    (subst (λ (n : ℕ). HasIndexOf is.footer.period (slice_range bytes n (length bytes - 28)) n → ⊥) is.data_is (subst (λ (u : IndexBytes). HasIndexOf u.period u.bytes data_len → ⊥) is.index_is none))
+
+-- nor is one whose checkpoints don't cover the data
+pub covers_less : (bytes : List ℕ) (data_len : ℕ) (index : IndexBytes) (version : DocStoreVersion) (x : CheckedIndex) (before after : List Row) → IsStoreSlice bytes data_len index version
+    → IsChecked index.period index.bytes x before after → ((docs : ℕ) → x.covered ≡ Some (docs, data_len) → ⊥)
+    → ((IsSomeStore bytes → ⊥) × BreaksIndex bytes data_len None) × Finds bytes (Err BadIndex)
+covers_less bytes data_len index version x before after is checked fails =
+    let low = is.within in
+    let form = (found_tail bytes is.footer (omega arith) is.reads).form in
+    let two : 2 ≤ index.period = subst (λ (p : ℕ). 2 ≤ p) (sym (ap (λ (u : IndexBytes). u.period) is.index_is)) (known_period is.footer.period _ _ form) in
+    let none = not_covered index.period index.bytes data_len checked.cs two checked.is (λ docs e. fails docs (checked.covered ∙ e)) in
+    ((no_store bytes data_len index version is none, breaks_index bytes data_len index version None is (checked.cs, checked.is)), found_bad bytes data_len index version is none)
