@@ -10,7 +10,6 @@ from typing import Dict, Iterable, List, NamedTuple, Optional, Tuple
 LABELS = {
     "zevk": "zevk_locate",
     "unopened": "zevk_get",
-    "view": "view",
     "reader": "reader",
     "disk": "disk",
     "log": "log",

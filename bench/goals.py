@@ -4,7 +4,7 @@ from dataclasses import dataclass
 from typing import Callable, Dict, List, Optional
 
 from figures import Figures, Spread
-from plan import DISK, FULL, LOG_PEERS, MEMORY, PROCESS
+from plan import DISK, FULL, LOG_PEERS, MEMORY
 from texts import factor_text, in_table, number_text
 
 GETS = {"uniform": "uniform", "hot": "hot", "zipf": "zipf", "sequence": "in sequence"}
@@ -13,7 +13,6 @@ SCATTERED = {order: told for order, told in GETS.items() if order not in BY_CURS
 ITERATE = {"iterate": "iterate"}
 
 WALK = "each get decodes the index from its top"
-CALLED = "each get calls the library, which seeks in another table; `StoreView` is compiled into the loop"
 BYTES = "both only read each document's bytes"
 LAYERS = "each get decodes eight layers of the index"
 OBJECT = "each document becomes an object in new memory"
@@ -70,18 +69,6 @@ def _reads(ours: str, theirs: str, name: str, most: float, workloads: Dict[str, 
     ]
 
 
-def _beside_view() -> List[Goal]:
-    """`zevk_locate` over a mapped file, in the page cache and in a file system in memory, beside `StoreView`."""
-    places = [("read", DISK, "mapped from the page cache"), ("memory", MEMORY, "mapped from `/dev/shm`")]
-    return [
-        Goal(f"`zevk_locate`, {mapped} / `StoreView`, get, {told}", 1.2,
-             _ratio(dict(group=group, place=place, side="zevk", workload=workload, length=100),
-                    dict(group="memory", place=PROCESS, side="view", workload=workload, length=100)), CALLED)
-        for group, place, mapped in places
-        for workload, told in GETS.items()
-    ]
-
-
 def _opening() -> Goal:
     common = dict(group="open", length=100)
     return Goal("`zevk_get` / floor, to the first document", 1.2,
@@ -129,7 +116,6 @@ GOALS = [
     *_reads("path", "lmdb_cursor", "by path / LMDB by a cursor, get", 0.6, BY_CURSOR, UNKNOWN),
     *_reads("unopened", "lmdb_cursor", "`zevk_get` / LMDB by a cursor, get", 0.6, BY_CURSOR, WALK),
     *_reads("unopened", "cdb", "`zevk_get` / tinycdb, get", 1.0, GETS, WALK),
-    *_beside_view(),
     *_reads("unopened", "lmdb", "`zevk_get_run` / LMDB", 0.6, ITERATE, BYTES),
     *_reads("unopened", "cdb", "`zevk_get_run` / tinycdb", 0.9, ITERATE, BYTES),
     _opening(),

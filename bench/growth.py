@@ -10,8 +10,7 @@ LEFT, RIGHT = 58, WIDTH - 22
 PANEL, TITLE, GAP = 140, 30, 24
 
 #: in the order of their markers
-SIDES = ["zevk", "unopened", "view", "plain", "lmdb", "cdb"]
-NAMES = {"view": "StoreView"}
+SIDES = ["zevk", "unopened", "plain", "lmdb", "cdb"]
 
 #: less memory than a page is reported as a page
 PAGE = 4096
@@ -63,7 +62,7 @@ def _legend(drawing: Drawing, sides: List[str], top: float) -> float:
     for at, side in enumerate(sides):
         x, y = 14 + 172 * (at % 2), top + 18 * (at // 2)
         drawing.curve([(x, y), (x + 14, y), (x + 28, y)], SIDES.index(side))
-        drawing.text(x + 36, y + 4, NAMES.get(side, label_of(side)))
+        drawing.text(x + 36, y + 4, label_of(side))
     return top + 18 * ((len(sides) + 1) // 2)
 
 

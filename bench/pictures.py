@@ -12,8 +12,8 @@ from texts import between, factor_text, in_sentence, listed, time_text
 
 #: how a side is called that has more than one call
 OPENS = {"unopened": "zevk_get", "path": "by path", "zevk": "zevk_open", "checked": "path, checked",
-         "view": "StoreView", "reader": "StoreReader", "rust": "Rust, Store"}
-OUR_SIDES = ["zevk", "unopened", "path", "checked", "view", "reader", "rust", "python"]
+         "reader": "StoreReader", "rust": "Rust, Store"}
+OUR_SIDES = ["zevk", "unopened", "path", "checked", "reader", "rust", "python"]
 
 Wanted = Dict[str, object]
 

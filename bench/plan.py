@@ -34,8 +34,8 @@ APPENDERS = ["path", "lmdb", "sqlite", "leveldb", "rocksdb"]
 WRITER_OF = {"unopened": "zevk", "path": "zevk", "checked": "zevk", "ranged": "zevk", "plain_ranged": "plain",
              "rust": "zevk", "python": "zevk", "lmdb_cursor": "lmdb"}
 
-#: sides in Rattle, all ours: bytes in memory, a reader with a cache over them, the same over a file on disk, and a log
-RATTLE_SIDES = ["view", "reader", "disk", "log"]
+#: sides in Rattle, all ours: a reader with a cache over bytes in memory, the same over a file on disk, and a log
+RATTLE_SIDES = ["reader", "disk", "log"]
 
 #: sides in Python: the package, what Python's users would pick instead, and a dict of offsets over a mapped file
 PYTHON_SIDES = ["python", "py_sqlite", "py_gnu", "py_lmdb", "py_offsets"]
@@ -228,7 +228,7 @@ def instruction_rows(sizes: Sizes) -> List[Row]:
 
 def memory_rows(sizes: Sizes, outside: List[str]) -> List[Row]:
     """Memory of the process for every length, and a file system in memory for one."""
-    own, lengths = ["view", "reader"] + outside, list(sizes.documents)
+    own, lengths = ["reader"] + outside, list(sizes.documents)
     return _reads("memory", MEMORY, ["zevk"], [100], sizes) + _reads("memory", PROCESS, own, lengths, sizes)
 
 
@@ -255,7 +255,7 @@ def append_rows(sizes: Sizes) -> List[Row]:
 def open_rows(sizes: Sizes, outside: List[str]) -> List[Row]:
     """By all the calls in C and in Rust, and of bytes in memory."""
     shapes = [(100, sizes.documents[100]), (20000, sizes.documents[20000])]
-    places = [(DISK, USUAL_SIDES + PATH_SIDES + RUST_SIDES), (PROCESS, ["view", "reader"] + outside)]
+    places = [(DISK, USUAL_SIDES + PATH_SIDES + RUST_SIDES), (PROCESS, ["reader"] + outside)]
     return [
         Row("open", "open", place, side, documents, length, questions=sizes.opens)
         for length, documents in shapes
@@ -352,7 +352,7 @@ def growth_rows(sizes: Sizes) -> List[Row]:
     rows = []
     for blocks in sizes.blocks:
         opens = max(1, min(100, 1_000_000 // blocks))
-        for side, place in [("zevk", DISK), ("unopened", DISK), ("view", PROCESS), ("reader", PROCESS),
+        for side, place in [("zevk", DISK), ("unopened", DISK), ("reader", PROCESS),
                             ("plain", DISK), ("lmdb", DISK), ("cdb", DISK)]:
             rows.append(Row("growth", "uniform", place, side, blocks, 8, BLOCK_EACH, sizes.questions))
             rows.append(Row("growth", "open", place, side, blocks, 8, BLOCK_EACH, opens))

@@ -16,8 +16,6 @@ from plan import C_SIDES, LARGE_BATCH, LOG_MAKES, LOG_READS, MEMORY, PYTHON_SIDE
 
 #: what crates/bench_store calls a workload of a side
 STORE_WORKLOADS = {
-    "view": {"uniform": "view_uniform", "hot": "view_hot", "zipf": "view_zipf", "sequence": "view_seq",
-             "iterate": "view_iter", "open": "view_open"},
     "reader": {"uniform": "get_uniform", "hot": "get_hot", "zipf": "get_zipf", "sequence": "get_seq",
                "iterate": "iter_raw", "open": "open", "write": "write", "stack": "stack"},
     "log": {"log_append": "log_append", "log_synced_once": "log_append", "log_open": "log_open",

@@ -11,7 +11,7 @@ from texts import Text, factor_text, in_table, number_text, time_text
 LENGTHS = [8, 100, 1000, 20000]
 PEER_COLUMNS = ["lmdb", "sqlite", "leveldb", "rocksdb", "cdb", "plain"]
 C_COLUMNS = ["unopened", "zevk"] + PEER_COLUMNS
-HEADS = {"unopened": "`zevk_get`", "zevk": "`zevk_locate`", "path": "by path", "view": "`StoreView`",
+HEADS = {"unopened": "`zevk_get`", "zevk": "`zevk_locate`", "path": "by path",
          "checked": "by path, checked", "disk": "`DiskFile`", "log": "`SegmentedLog`"}
 
 Lines = List[str]
@@ -34,7 +34,7 @@ def cells(figures: Figures, sides: List[str], text: Text, wanted: Wanted) -> Lis
 
 
 def read(figures: Figures) -> Lines:
-    in_process = ["view", "reader"]
+    in_process = ["reader"]
     sides = ["unopened", "zevk", "path", "checked", *in_process, "disk", "lmdb", "lmdb_cursor", *PEER_COLUMNS[1:]]
     lines = head("reading", sides)
     for workload, name in READ_NAMES.items():
@@ -114,7 +114,7 @@ def other(figures: Figures) -> Lines:
 
 #: how users open a store, and what they call for it
 OPENS = {"unopened": "`zevk_get`", "path": "`zevk_file_open`", "zevk": "`zevk_open`",
-         "checked": "`zevk_file_open`, checked", "view": "`StoreView::open`", "reader": "`StoreReader::open`",
+         "checked": "`zevk_file_open`, checked", "reader": "`StoreReader::open`",
          "rust": "Rust, `Store::open(fs::read(..))`"}
 
 
@@ -215,7 +215,7 @@ def ranges(figures: Figures) -> Lines:
 
 
 def growing(figures: Figures) -> Lines:
-    sides = ["unopened", "zevk", "view", "reader", "plain", "lmdb", "cdb"]
+    sides = ["unopened", "zevk", "reader", "plain", "lmdb", "cdb"]
     lines: Lines = []
     for workload, name in (("uniform", "a get"), ("open", "an open and a get")):
         lines += head(f"blocks: {name}", sides, {"zevk": "`zevk_locate`" if workload == "uniform" else "`zevk_open`"})

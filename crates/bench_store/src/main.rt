@@ -16,7 +16,6 @@ mod plans;
 mod shapes;
 mod store_work;
 mod stores;
-mod view_work;
 mod workloads;
 
 use anyhow::Result;

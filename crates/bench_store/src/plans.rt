@@ -13,12 +13,6 @@ get_hot n=5000 q=2000 hot=500
 get_zipf n=5000 q=2000
 get_seq n=5000
 iter_raw n=5000
-view_open n=20000 q=3
-view_uniform n=5000 q=2000
-view_hot n=5000 q=2000 hot=500
-view_zipf n=5000 q=2000
-view_seq n=5000
-view_iter n=5000
 disk_write n=2000 l=100
 disk_uniform n=5000 q=2000
 disk_hot n=5000 q=2000 hot=500
@@ -41,13 +35,6 @@ get_hot
 get_zipf
 get_seq
 iter_raw
-view_open n=1000
-view_open n=1000000
-view_uniform
-view_hot
-view_zipf
-view_seq
-view_iter
 disk_write
 disk_uniform
 disk_hot
@@ -70,16 +57,4 @@ get_uniform n=1000 l=8 bs=0
 get_uniform n=10000 l=8 bs=0
 get_uniform n=100000 l=8 bs=0
 get_uniform n=1000000 l=8 bs=0
-get_uniform n=10000000 l=8 bs=0
-view_open n=100 l=8 bs=0 q=2000
-view_open n=1000 l=8 bs=0 q=2000
-view_open n=10000 l=8 bs=0 q=200
-view_open n=100000 l=8 bs=0 q=20
-view_open n=1000000 l=8 bs=0 q=2
-view_open n=10000000 l=8 bs=0 q=1
-view_uniform n=100 l=8 bs=0
-view_uniform n=1000 l=8 bs=0
-view_uniform n=10000 l=8 bs=0
-view_uniform n=100000 l=8 bs=0
-view_uniform n=1000000 l=8 bs=0
-view_uniform n=10000000 l=8 bs=0";
+get_uniform n=10000000 l=8 bs=0";

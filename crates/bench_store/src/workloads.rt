@@ -10,7 +10,6 @@ use crate::measure::{Measure, Report, Workload, perform};
 use crate::shapes::StoreShape;
 use crate::store_work::{Open, ReadStore, Source, Stack, Write};
 use crate::stores::StorePlan;
-use crate::view_work::{OpenView, ReadView};
 use anyhow::{Result, bail};
 use docstore::{DocId, MemSink, OwnedBytes};
 use std::alloc::Global;
@@ -29,8 +28,6 @@ pub struct Bench<'a> {
 pub enum Means {
     /// A reader of bytes in memory.
     Reader,
-    /// A view of bytes in memory.
-    View,
     /// A reader of a file.
     Disk,
 }
@@ -53,12 +50,10 @@ fn store_shape(numbers: &Numbers, documents: u64) -> StoreShape {
     }
 }
 
-// The shape of a store that is read by these means.
-fn read_shape(numbers: &Numbers, means: Means) -> StoreShape {
+// The shape of a store that is read.
+fn read_shape(numbers: &Numbers) -> StoreShape {
     let mut shape = store_shape(numbers, 1_000_000);
-    if means != Means::View {
-        shape.capacity = Some(numbers.capacity);
-    }
+    shape.capacity = Some(numbers.capacity);
     shape
 }
 
@@ -78,18 +73,12 @@ impl<'a> Bench<'a> {
         let hot = Order::Hot(numbers.hot);
         match name {
             "write" => self.write(numbers),
-            "open" => self.open(name, Means::Reader, numbers),
+            "open" => self.open(numbers),
             "get_uniform" => self.read(name, Means::Reader, Some(Order::Uniform), numbers),
             "get_hot" => self.read(name, Means::Reader, Some(hot), numbers),
             "get_zipf" => self.read(name, Means::Reader, Some(Order::Zipf), numbers),
             "get_seq" => self.read(name, Means::Reader, Some(Order::Sequential), numbers),
             "iter_raw" => self.read(name, Means::Reader, None, numbers),
-            "view_open" => self.open(name, Means::View, numbers),
-            "view_uniform" => self.read(name, Means::View, Some(Order::Uniform), numbers),
-            "view_hot" => self.read(name, Means::View, Some(hot), numbers),
-            "view_zipf" => self.read(name, Means::View, Some(Order::Zipf), numbers),
-            "view_seq" => self.read(name, Means::View, Some(Order::Sequential), numbers),
-            "view_iter" => self.read(name, Means::View, None, numbers),
             "disk_write" => self.write_disk(numbers),
             "disk_uniform" => self.read(name, Means::Disk, Some(Order::Uniform), numbers),
             "disk_hot" => self.read(name, Means::Disk, Some(hot), numbers),
@@ -143,15 +132,11 @@ impl<'a> Bench<'a> {
         self.measure(name.as_str(), numbers, &mut work)
     }
 
-    fn open(&self, kind: &str, means: Means, numbers: &Numbers) -> Result<()> {
-        let shape = read_shape(numbers, means);
+    fn open(&self, numbers: &Numbers) -> Result<()> {
+        let shape = read_shape(numbers);
         let times = numbers.questions.unwrap_or(2000);
-        let name = format!(in self.alloc; "{kind}/{shape}/q={times}")?;
+        let name = format!(in self.alloc; "open/{shape}/q={times}")?;
         let source = self.source(shape)?;
-        if means == Means::View {
-            let Source { alloc, file, .. } = source;
-            return self.measure(name.as_str(), numbers, &mut OpenView { alloc, file, times });
-        }
         self.measure(name.as_str(), numbers, &mut Open { source, times })
     }
 
@@ -172,17 +157,13 @@ impl<'a> Bench<'a> {
         ids: Option<Vec<DocId>>,
         numbers: &Numbers,
     ) -> Result<()> {
-        let (rt, alloc) = (self.rt, self.alloc);
+        let rt = self.rt;
         if means == Means::Disk {
             write_disk(rt, &self.plan(shape)?)?;
             let capacity = shape.capacity.unwrap_or(0) as usize;
             return self.measure_disk(name, numbers, &mut ReadDisk { rt, capacity, ids });
         }
         let source = self.source(shape)?;
-        if means == Means::View {
-            let file = source.file;
-            return self.measure(name, numbers, &mut ReadView { alloc, file, ids });
-        }
         self.measure(name, numbers, &mut ReadStore { source, ids })
     }
 
@@ -194,7 +175,7 @@ impl<'a> Bench<'a> {
         order: Option<Order>,
         numbers: &Numbers,
     ) -> Result<()> {
-        let shape = read_shape(numbers, means);
+        let shape = read_shape(numbers);
         let Some(order) = order else {
             let name = format!(in self.alloc; "{kind}/{shape}")?;
             return self.read_by(name.as_str(), means, shape, None, numbers);

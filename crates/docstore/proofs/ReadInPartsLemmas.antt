@@ -343,8 +343,5 @@ fails_after reader n cause old mid new works p le h = subst (λ (f : Option Caus
 pub all_of_range : (cs : List Checkpoint) (count : ℕ) → count ≡ length cs → slice_range cs 0 count ≡ cs
 all_of_range cs count is = take_all (count - 0) cs (omega arith)
 
-pub covers_cut : (cs : List Checkpoint) (total : ℕ) → Covers cs total → CutAll cs total
-covers_cut cs total covers = record { doc = 0; byte = 0; in_line = covers.in_line; filled = covers.filled; end = omega (arith, covers.end) }
-
 pub docs_covered : (cs : List Checkpoint) (total : ℕ) → Covers cs total → sum_by doc_count cs ≡ docs_end 0 cs
 docs_covered cs total covers = omega (arith, docs_up 0 0 cs covers.in_line)

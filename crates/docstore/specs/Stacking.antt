@@ -81,13 +81,6 @@ HasNoRoomFor w version docs OldVersion = (w.output.failure ≡ None) × (version
 HasNoRoomFor w version docs TooManyDocs = HasNoIdsFor w version docs
 HasNoRoomFor w version docs _ = ⊥
 
--- what a refused stacking of a view leaves
-abbrev pub AfterStackedView : Writing → Writing → StoreError → Type 0
-AfterStackedView old new OldVersion = new ≡ old
-AfterStackedView old new TooManyDocs = new ≡ old
-AfterStackedView old new (Failed cause) = AfterFailed old.output.failure cause old new
-AfterStackedView old new _ = ⊥
-
 -- the pending documents were written as a block, if there were any
 abbrev pub IsFlushed : Writing → Writing → Type 0
 IsFlushed old new = (old.output.failure ≡ None) × (new ≡ with_failures new.output.failures (flushed old))

@@ -3,12 +3,12 @@
 #![tactic(auto)]
 
 mod block_index;
-pub mod close_error;
+mod close_error;
 mod current_block;
 pub mod laws;
-pub mod run;
-pub mod store_compressor;
-pub mod writer;
+mod run;
+mod store_compressor;
+mod writer;
 
 pub use close_error::CloseError;
 pub use layered_index::{
@@ -30,9 +30,8 @@ pub use store_format::{
     u32_at, weight_of,
 };
 pub use store_reader::{
-    AliveDocuments, Answer, BlockSlice, BlockSlices, CacheStats, CheckedStore,
-    DOCSTORE_CACHE_CAPACITY, DataPart, DocIter, DocWalk, Documents, Items, RawIter, ReadCall,
-    SliceDocuments, StoreFault, StoreHead, StorePart, StoreReader, StoreSlice, StoreTail,
-    StoreView, TailError, Walk, answer_all, any_lacks_memory, document_at,
+    Answer, BlockSlice, BlockSlices, CacheStats, CheckedStore, DOCSTORE_CACHE_CAPACITY, DataPart,
+    DocIter, DocWalk, Items, RawIter, ReadCall, SliceDocuments, StoreFault, StoreHead, StorePart,
+    StoreReader, StoreSlice, StoreTail, TailError, Walk, answer_all, any_lacks_memory, document_at,
 };
 pub use writer::StoreWriter;

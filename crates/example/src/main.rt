@@ -5,16 +5,16 @@ mod in_memory;
 mod lists;
 mod merging;
 mod on_disk;
+mod outline;
 mod pages;
 mod records;
 mod slice;
-mod view;
 
 fn main(rt: HostRuntime) -> anyhow::Result<()> {
     in_memory::write_and_read(&rt)?;
     on_disk::write_and_read(&rt)?;
     slice::print_slice(&rt)?;
-    view::print_view(&rt)?;
+    outline::print_outlined(&rt)?;
     pages::print_page(&rt)?;
     records::write_and_read(&rt)?;
     merging::print_merged(&rt)?;

@@ -20,7 +20,7 @@ use Rattle.store_reader.specs.CallAnswers.{exact_result}
 use Rattle.store_reader.specs.IndexChecks.{IsCheckOf}
 use Rattle.store_reader.specs.Opening.{IsSomeStore}
 use Rattle.store_reader.specs.StoreSlices.{document_in, count_of_store, IsAmid, GivesStored}
-use Rattle.store_reader.specs.Viewing.{FindsFooter, FindsFrom, Finds, given}
+use Rattle.store_reader.specs.Finding.{FindsFooter, FindsFrom, Finds, given}
 use Rattle.store_reader.specs.declared.slice_documents.SliceDocuments.{SliceDocuments}
 use Rattle.store_reader.proofs.StoreSliceLemmas.{err_not_ok}
 use Rattle.store_c.specs.declared.fault.Fault.{Fault}

@@ -17,8 +17,8 @@ use Rattle.store_reader.specs.CallAnswers.{exact_result}
 use Rattle.store_reader.specs.Opening.{IsSomeStore}
 use Rattle.store_reader.specs.StoreSlices.{document_in, count_of_store, RefusesOne}
 use Rattle.store_reader.specs.StoreTails.{HasIndexIn}
-use Rattle.store_reader.specs.Viewing.{FindsFooter, FindsIndex, FindsFrom, Finds}
-use Rattle.store_reader.proofs.AlikeLemmas.{footer_or_refusal, one_footer, refused_once}
+use Rattle.store_reader.specs.Finding.{FindsFooter, FindsIndex, FindsFrom, Finds}
+use Rattle.store_reader.proofs.FindsOnceLemmas.{footer_or_refusal, one_footer, refused_once}
 use Rattle.store_reader.proofs.StoreSliceLemmas.{err_not_ok, finds_footer, finds_past}
 use Rattle.store_c.specs.declared.place.Place.{Place}
 use Rattle.store_c.specs.Calls.{HasCounts, HasSlot, RefusesFile}

@@ -12,7 +12,7 @@ use Rattle.layered_index.specs.Checkpoint.{first_past}
 use Rattle.store_format.specs.StoreFile.{checkpoints_of}
 use Rattle.store_reader.specs.Opening.{IsSomeStore}
 use Rattle.store_reader.specs.StoreTails.{TailBytes, IsTailOf, IsWanted, HasIndexIn, RefusesTail}
-use Rattle.store_reader.proofs.AlikeLemmas.{footer_or_refusal, one_footer, refused_once}
+use Rattle.store_reader.proofs.FindsOnceLemmas.{footer_or_refusal, one_footer, refused_once}
 use Rattle.store_reader.proofs.StoreSliceLemmas.{block_stored, refused_is, finds_footer}
 use Rattle.store_reader.proofs.StoreTailLemmas.{tail_footer}
 use Rattle.store_c.specs.declared.block_place.BlockPlace.{BlockPlace}

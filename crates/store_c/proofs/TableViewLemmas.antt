@@ -14,7 +14,7 @@ use Rattle.store_reader.specs.Opening.{IsSomeStore}
 use Rattle.store_reader.proofs.RefusedLemmas.{parts_of}
 use Rattle.store_reader.proofs.SeekLemmas.{IsWithin, within}
 use Rattle.store_reader.proofs.StoreSliceLemmas.{block_is_of, block_within as within_data, count_stored, none_stored}
-use Rattle.store_reader.proofs.ViewLemmas.{seek_stays}
+use Rattle.store_reader.proofs.PlaceLemmas.{seek_stays}
 use Rattle.layered_index.specs.declared.row.Row.{Row}
 use Rattle.store_c.specs.declared.place.Place.{Place}
 use Rattle.layered_index.specs.Rows.{ends_of, ends_in}

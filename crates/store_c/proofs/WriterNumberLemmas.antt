@@ -7,7 +7,7 @@ use Rattle.store_base.specs.declared.error.StoreError.{StoreError}
 use Rattle.store_format.specs.Slots.{slots}
 use Rattle.store_format.specs.StoreFile.{StoreBlock, checkpoints_of}
 use Rattle.store_reader.specs.Opening.{IsSomeStore}
-use Rattle.store_reader.specs.Viewing.{Finds}
+use Rattle.store_reader.specs.Finding.{Finds}
 use Rattle.docstore.specs.Writer.{Writing, IsTooLarge, num_docs}
 use Rattle.layered_index.specs.declared.row.Row.{Row}
 use Rattle.store_c.specs.declared.writer.Writer.{Writer}

@@ -13,7 +13,7 @@ use Rattle.store_format.specs.Slots.{slots}
 use Rattle.store_format.specs.StoreFile.{checkpoints_of}
 use Rattle.store_reader.specs.Opening.{IsSomeStore}
 use Rattle.store_reader.specs.StoreSlices.{count_of_store}
-use Rattle.store_reader.specs.Viewing.{Finds}
+use Rattle.store_reader.specs.Finding.{Finds}
 use Rattle.std.specs.declared.result.Result.TheVariants.{Err}
 use Rattle.layered_index.specs.declared.row.Row.{Row}
 use Rattle.store_c.specs.declared.place.Place.{Place}

@@ -6,7 +6,7 @@ use Rattle.std.specs.declared.result.Result.TheVariants.{Ok, Err}
 use Rattle.store_base.specs.declared.error.StoreError.{StoreError}
 use Rattle.store_reader.specs.Opening.{IsSomeStore}
 use Rattle.store_reader.specs.StoreSlices.{document_in, IsBlockSlice, RefusesOne}
-use Rattle.store_reader.specs.Viewing.{FindsFooter}
+use Rattle.store_reader.specs.Finding.{FindsFooter}
 use Rattle.store_c.specs.declared.place.Place.{Place}
 use Rattle.store_c.specs.Calls.{RefusesFile}
 

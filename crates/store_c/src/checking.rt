@@ -5,7 +5,7 @@ ghost use Rattle.store_format.specs.Block.{damaged};
 ghost use Rattle.store_format.specs.Slots.{slots};
 ghost use Rattle.store_reader.specs.IndexChecks.{BreaksIndex};
 ghost use Rattle.store_reader.specs.Opening.{IsSomeStore};
-ghost use Rattle.store_reader.specs.Viewing.{Finds, given};
+ghost use Rattle.store_reader.specs.Finding.{Finds, given};
 ghost use Rattle.store_c.specs.Calls.{RefusesFile};
 ghost use Rattle.store_c.specs.Checking.{AreWholeTo, IsSoundFile, IsFirstDamaged, IsIndexFault, IsPlaceOf};
 ghost use Rattle.store_c.specs.declared.fault.Fault.{Fault as FaultOf};

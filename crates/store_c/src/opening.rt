@@ -2,7 +2,7 @@
 ghost use Rattle.std.specs.Prelude.{◌≡◌, ◌≢◌, IfOk, IfErr, Err};
 ghost use Rattle.store_reader.specs.IndexChecks.{IsCheckedStore};
 ghost use Rattle.store_reader.specs.Opening.{IsSomeStore};
-ghost use Rattle.store_reader.specs.Viewing.{Finds};
+ghost use Rattle.store_reader.specs.Finding.{Finds};
 
 use docstore::{CheckedStore, Row, StoreError, StoreSlice};
 use std::alloc::Global;

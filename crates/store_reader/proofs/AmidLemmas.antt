@@ -8,7 +8,7 @@ use Rattle.store_format.specs.Slots.{slots}
 use Rattle.store_reader.specs.declared.block_slice.BlockSlice.{BlockSlice}
 use Rattle.store_reader.specs.CallAnswers.{exact_result}
 use Rattle.store_reader.specs.Opening.{IsSomeStore}
-use Rattle.store_reader.specs.Viewing.{given}
+use Rattle.store_reader.specs.Finding.{given}
 use Rattle.store_reader.specs.StoreSlices.{count_of_store, IsBlockSlice, BlocksLeft, AreLeft, IsAmid, GivesStored}
 use Rattle.store_reader.proofs.StoreSliceLemmas.{block_is_of}
 use Rattle.store_reader.proofs.BlocksLeftLemmas.{left_few}

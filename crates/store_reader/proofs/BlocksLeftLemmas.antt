@@ -20,7 +20,7 @@ use Rattle.store_reader.specs.declared.block_slice.BlockSlice.{BlockSlice}
 use Rattle.store_reader.specs.Opening.{IsSomeStore}
 use Rattle.store_reader.specs.StoreSlices.{count_of_store, IsBlockSlice, BlocksLeft, ContinuesAt, IsBlockAt, IsSliceFrom, GivesPart, AreLeft, GivesBlock}
 use Rattle.store_reader.proofs.StoreSliceLemmas.{count_stored, block_within}
-use Rattle.store_reader.proofs.ViewLemmas.{seek_stays}
+use Rattle.store_reader.proofs.PlaceLemmas.{seek_stays}
 
 -- the first document of a checkpoint is sought there
 first_here : (doc byte : ℕ) (before : List Checkpoint) (c : Checkpoint) (rest : List Checkpoint) → IsInLineFrom doc byte (before ++ c ∷ rest) → c.doc_range.start < c.doc_range.end

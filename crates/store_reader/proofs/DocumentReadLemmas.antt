@@ -1,6 +1,6 @@
 -- What follows where a document is read without its block.
 use Rattle.std.proofs.Common.{◌≡◌, ◌⊎◌, inl, inr, ℕ, ◌+◌, ◌-◌, ◌≤◌, true, false, IsTrue, List, length, Option, Some, None, nat_eq, is_some, refl, sym, ◌∙◌, ap, subst, arith}
-use Rattle.std.specs.Prelude.{if◌then◌else◌, Result, Ok, Err, IfErr, IsSomeAnd, MatchOption, slice_get}
+use Rattle.std.specs.Prelude.{if◌then◌else◌, Result, Ok, Err, IfErr, MatchOption, slice_get}
 use Rattle.std.specs.List.{AllByRecursion}
 use Rattle.store_base.specs.Counts.{HasRisen}
 use Rattle.store_base.specs.Files.{Part}
@@ -21,10 +21,7 @@ use Rattle.store_reader.proofs.TwoReadsLemmas.{truly}
 
 -- ---- the cache
 
--- what a look-up leaves that found the block, and one that did not
-asked_hit : (key : ℕ) (cache cache' : CachedBlocks) (block : List ℕ) → block_at key cache ≡ Some block → cache' ≡ after_hit key cache → cache' ≡ after_asked key cache
-asked_hit key cache cache' block kept after = after ∙ ap (λ (o : Option (List ℕ)). if is_some o then after_hit key cache else after_miss cache) (sym kept)
-
+-- what a look-up leaves that did not find the block
 pub asked_miss : (key : ℕ) (cache cache' : CachedBlocks) → block_at key cache ≡ None → cache' ≡ after_miss cache → cache' ≡ after_asked key cache
 asked_miss key cache cache' absent after = after ∙ ap (λ (o : Option (List ℕ)). if is_some o then after_hit key cache else after_miss cache) (sym absent)
 
@@ -41,18 +38,7 @@ capacity_asked key cache = elim (is_some (block_at key cache)) as (λ b. (if b t
 
 -- ---- the look-up
 
--- the block is kept
-pub looked_up_kept : (c : Checkpoint) (id : ℕ) (file : Part) (cache cache' : CachedBlocks) (result : Result (List ℕ) StoreError)
-    → IsSomeAnd (block_at c.byte_range.start cache) (λ block. Answers id (slot block (id - c.doc_range.start)) result) → cache' ≡ after_hit c.byte_range.start cache
-    → DocumentIsLookedUp c id file cache result file × (cache' ≡ after_asked c.byte_range.start cache)
-looked_up_kept c id file cache cache' result some after = go (block_at c.byte_range.start cache) refl some
-  where
-    go : (o : Option (List ℕ)) → block_at c.byte_range.start cache ≡ o → IsSomeAnd o (λ block. Answers id (slot block (id - c.doc_range.start)) result)
-        → DocumentIsLookedUp c id file cache result file × (cache' ≡ after_asked c.byte_range.start cache)
-    go None e answer = absurd answer
-    go (Some block) e answer = (rw e (refl, answer), asked_hit c.byte_range.start cache cache' block e after)
-
--- it is not
+-- the block is not kept
 pub looked_up_unkept : (c : Checkpoint) (id : ℕ) (file file' : Part) (cache cache' : CachedBlocks) (result : Result (List ℕ) StoreError) → block_at c.byte_range.start cache ≡ None
     → cache' ≡ after_miss cache → DocumentComes c id file result file' → DocumentIsLookedUp c id file cache result file' × (cache' ≡ after_asked c.byte_range.start cache)
 looked_up_unkept c id file file' cache cache' result absent after comes = (rw absent comes, asked_miss c.byte_range.start cache cache' absent after)

@@ -15,10 +15,8 @@ pub mod RecentLemmas
 pub mod BlocksAlongLemmas
 pub mod OpenedLemmas
 pub mod RefusedLemmas
-pub mod FoundLemmas
-pub mod ViewLemmas
-pub mod AlikeLemmas
-pub mod GivenLemmas
+pub mod FindsOnceLemmas
+pub mod PlaceLemmas
 pub mod HandedLemmas
 pub mod ItemsSoFarLemmas
 pub mod SteadyLemmas

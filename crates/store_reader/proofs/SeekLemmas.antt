@@ -5,7 +5,7 @@ use Rattle.std.specs.List.{AllByRecursion}
 use Rattle.std.proofs.lemmas.Bool.{ltb-true, ltb-false, lt-ltb, le-ltb}
 use Rattle.layered_index.proofs.LayerLemmas.{docs_grow}
 use Rattle.layered_index.specs.declared.checkpoint.Checkpoint.{Checkpoint}
-use Rattle.layered_index.specs.Checkpoint.{IsInLineFrom, IsFilled, docs_end, bytes_end, first_past}
+use Rattle.layered_index.specs.Checkpoint.{IsInLineFrom, IsFilled, Covers, docs_end, bytes_end, first_past}
 
 -- what a seek finds, in checkpoints that go on from a document and a byte
 pub record IsWithin (doc byte : ℕ) (cs : List Checkpoint) (target : ℕ) (c : Checkpoint) : Type 0 where
@@ -106,6 +106,10 @@ not_all doc [] zero lt = absurd (omega arith)
 not_all doc [] (suc n) lt = absurd (omega arith)
 not_all doc (c ∷ cs) zero lt = omega arith
 not_all doc (c ∷ cs) (suc n) lt = omega (arith, not_all c.doc_range.end cs n lt)
+
+-- a seek of the first document of a block finds the block with its number
+pub first_sought : (cs : List Checkpoint) (bytes n : ℕ) → Covers cs bytes → docs_end 0 (take n cs) < docs_end 0 cs → first_past cs (docs_end 0 (take n cs)) ≡ slice_get cs n
+first_sought cs bytes n covers lt = next_block 0 0 cs n covers.in_line covers.filled (not_all 0 cs n lt)
 
 -- each block has a document
 pub docs_at_least : (doc byte : ℕ) (cs : List Checkpoint) (n : ℕ) → IsInLineFrom doc byte cs → AllByRecursion IsFilled cs → n ≤ length cs → doc + n ≤ docs_end doc (take n cs)

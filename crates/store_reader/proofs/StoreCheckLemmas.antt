@@ -1,44 +1,54 @@
 -- What the check of a store's index finds.
-use Rattle.std.proofs.Common.{◌≡◌, ℕ, ◌-◌, ◌≤◌, List, length, take, drop, Option, Some, None, refl, sym, ap, ◌∙◌, subst, arith}
-use Rattle.std.specs.Prelude.{Ok, Err, slice_range}
+use Rattle.std.proofs.Common.{◌≡◌, ℕ, ◌-◌, ◌≤◌, true, List, length, take, drop, Option, Some, None, refl, sym, ap, ◌∙◌, subst, arith}
+use Rattle.std.specs.Prelude.{Err, slice_range}
+use Rattle.store_base.proofs.ListLemmas.{length-slice}
+use Rattle.store_base.specs.Files.{Part}
 use Rattle.store_base.specs.declared.error.StoreError.TheVariants.{BadIndex}
 use Rattle.layered_index.specs.declared.check.CheckedIndex.{CheckedIndex}
 use Rattle.layered_index.specs.declared.checkpoint.Checkpoint.{Checkpoint}
 use Rattle.layered_index.specs.declared.index_fault.IndexFault.{IndexFault}
 use Rattle.layered_index.specs.declared.row.Row.{Row}
-use Rattle.layered_index.specs.Checkpoint.{Covers}
+use Rattle.layered_index.specs.Checkpoint.{Covers, bytes_end}
 use Rattle.layered_index.specs.Tallies.{IsChecked}
-use Rattle.layered_index.specs.IndexReading.{IsIndexPart}
-use Rattle.layered_index.specs.Layers.{index_part}
+use Rattle.layered_index.specs.Layers.{Index, index_part}
 use Rattle.layered_index.specs.Rows.{AreRowsOf}
 use Rattle.layered_index.specs.Sought.{IndexBytes}
+use Rattle.store_format.specs.declared.footer.DocStoreFooter.{DocStoreFooter}
 use Rattle.store_format.specs.declared.version.DocStoreVersion.{DocStoreVersion}
 use Rattle.store_format.specs.Footer.{version_number}
 use Rattle.store_format.specs.StoreFile.{blocks_at, checkpoints_of}
 use Rattle.store_format.proofs.FileLemmas.{known_period}
 use Rattle.store_format.proofs.StoreLemmas.{checkpoints_cover}
+use Rattle.store_reader.specs.CachedBlocks.{no_blocks}
 use Rattle.store_reader.specs.Covering.{IsIndexOf, HasIndexOf}
 use Rattle.store_reader.specs.IndexChecks.{IsCheckOf, BreaksIndex, IsCheckedStore}
 use Rattle.store_reader.specs.Opening.{IsSomeStore}
+use Rattle.store_reader.specs.Reading.{Reading}
 use Rattle.store_reader.specs.StoreSlices.{IsStoreSlice}
-use Rattle.store_reader.specs.Viewing.{IsView, Finds, data_in}
+use Rattle.store_reader.specs.Finding.{IsStoreBy, Finds, data_in}
 use Rattle.store_reader.proofs.CoveringLemmas.{covers_by, not_covered}
-use Rattle.store_reader.proofs.FoundLemmas.{view_is}
+use Rattle.store_reader.proofs.OpenedLemmas.{IsTail, IsMiddle, whole_file}
 use Rattle.store_reader.proofs.StoreSliceLemmas.{found_tail, finds_bad_index, index_by_footer, slice_laid}
-use Rattle.store_reader.proofs.ViewLemmas.{checkpoints_are, count_is}
+use Rattle.store_reader.proofs.PlaceLemmas.{checkpoints_are, count_is}
 
 -- ---- a store
 
--- the index of checkpoints that cover the data is found
-found_index : (bytes : List ℕ) (data_len : ℕ) (index : IndexBytes) (version : DocStoreVersion) (cs : List Checkpoint) (is : IsStoreSlice bytes data_len index version)
-    → IsIndexPart index.period index.bytes cs → Covers cs data_len → Finds bytes (Ok (is.footer, record { period = is.footer.period; checkpoints = cs }))
-found_index bytes data_len index version cs is part covers =
-    let low = is.within in let at = is.data_is in
-    let of : IsIndexOf is.footer.period (slice_range bytes is.footer.offset (length bytes - 28)) is.footer.offset cs = record {
-      covers = subst (λ (n : ℕ). Covers cs n) is.data_is covers;
-      spells = subst (λ (u : IndexBytes). u.bytes ≡ index_part u.period cs) (index_by_footer bytes data_len index version is) part.1;
-    } in
-    record { footer = Ok is.footer; reads = is.reads; goes_on = (refl, record { past = λ past. absurd (omega arith); within = λ _. (refl, of) }) }
+-- the bytes are the file of the store that these checkpoints cut from them
+stored_by : (bytes : List ℕ) (f : DocStoreFooter) (cs : List Checkpoint) → IsTail bytes f → f.offset ≤ length bytes - 28 → Covers cs f.offset
+    → slice_range bytes f.offset (length bytes - 28) ≡ index_part f.period cs → IsStoreBy bytes cs f.period f.doc_store_version
+stored_by bytes f cs tail within covers spells =
+    let long = tail.long in
+    let end : bytes_end 0 cs ≡ f.offset = covers.end in
+    let less : bytes_end 0 cs - 0 ≡ f.offset = omega arith in
+    let size : length (data_in bytes cs) ≡ f.offset = length-slice bytes 0 (bytes_end 0 cs) (omega arith) ∙ less in
+    let index : Index = record { period = f.period; checkpoints = cs } in
+    let middle : IsMiddle bytes f index = record { within = within; period = refl; covers = covers; spells = spells } in
+    let file : Part = record { content = data_in bytes cs; honest = true; failures = 0; reads = 0; asked = 0 } in
+    let reader : Reading = record { file = file; checkpoints = cs; period = f.period; version = f.doc_store_version; decompressor = f.decompressor; cache = no_blocks 0 } in
+    record {
+      covers = subst (λ (n : ℕ). Covers cs n) (sym size) covers;
+      store = whole_file bytes f reader index tail middle refl refl (ap (λ (n : ℕ). slice_range bytes 0 n) end);
+    }
 
 -- the rows of the checkpoints, by their number
 rows_of : (cs ds : List Checkpoint) (count : ℕ) (before after : List Row) → ds ≡ cs → count ≡ length cs → AreRowsOf (take (length before) cs) (take (length cs) after)
@@ -53,13 +63,14 @@ checked_store bytes data_len index version x docs before after is checked covere
     let cs = checked.cs in
     let f = is.footer in
     let covers = covers_by cs docs data_len checked.is.0 (sym checked.covered ∙ covered) in
-    let view : IsView bytes cs f.period f.doc_store_version = view_is bytes f (record { period = f.period; checkpoints = cs })
-    (found_index bytes data_len index version cs is checked.is covers.covers) in
-    let same = checkpoints_are bytes cs f.period f.doc_store_version view in
+    let low = is.within in let at = is.data_is in
+    let spells = subst (λ (u : IndexBytes). u.bytes ≡ index_part u.period cs) (index_by_footer bytes data_len index version is) checked.is.1 in
+    let store = stored_by bytes f cs (found_tail bytes f (omega arith) is.reads) (omega arith) (subst (λ (n : ℕ). Covers cs n) is.data_is covers.covers) spells in
+    let same = checkpoints_are bytes cs f.period f.doc_store_version store in
     record {
-      store = record { period = f.period; version = version_number f.doc_store_version; blocks = blocks_at cs (data_in bytes cs); store = view.store };
+      store = record { period = f.period; version = version_number f.doc_store_version; blocks = blocks_at cs (data_in bytes cs); store = store.store };
       blocks = checked.count ∙ ap length (sym same);
-      docs = sym covers.count ∙ count_is bytes cs f.period f.doc_store_version view;
+      docs = sym covers.count ∙ count_is bytes cs f.period f.doc_store_version store;
       rows = rows_of cs (checkpoints_of (blocks_at cs (data_in bytes cs))) x.count before after same checked.count checked.rows;
       rest = subst (λ (n : ℕ). drop n after ≡ drop n before) (sym checked.count) checked.rest;
     }

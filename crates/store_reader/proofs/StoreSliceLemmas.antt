@@ -25,12 +25,12 @@ use Rattle.store_reader.specs.Covering.{HasIndexOf}
 use Rattle.store_reader.specs.CallAnswers.{exact_result}
 use Rattle.store_reader.specs.GetAnswer.{AnswersTruly}
 use Rattle.store_reader.specs.Opening.{IsSomeStore}
-use Rattle.store_reader.specs.Viewing.{Viewing, IsView, FindsFooter, Finds, data_in}
+use Rattle.store_reader.specs.Finding.{IsStoreBy, FindsFooter, Finds, data_in}
 use Rattle.store_reader.specs.StoreSlices.{IsPartOf, IsLaidOut, IsStoreSlice, IsBlockSlice, document_in, count_of_store}
 use Rattle.store_reader.proofs.OpenedLemmas.{IsTail}
 use Rattle.store_reader.proofs.RefusedLemmas.{parts_of, footer_of, not_refused}
-use Rattle.store_reader.proofs.SeekLemmas.{within}
-use Rattle.store_reader.proofs.ViewLemmas.{seek_stays, block_placed as block_seen, block_none, IsPlaced, placed, doc_placed, slot_placed, slot_none, count_is}
+use Rattle.store_reader.proofs.SeekLemmas.{within, none_past}
+use Rattle.store_reader.proofs.PlaceLemmas.{seek_stays, IsPlaced, placed, doc_placed, slot_placed, slot_none, count_is}
 
 -- ---- where the parts lie
 
@@ -115,10 +115,10 @@ version_of : (period version : ℕ) (reserved : List ℕ) → HasForm period ver
 version_of period version reserved (inl old) = elim old.0 [ inl one ↦ (V1, sym one) | inr two ↦ (V2, sym two) ]
 version_of period version reserved (inr new) = (V3, sym new.0)
 
--- The store of the bytes is what a view of them sees.
+-- The store of the bytes, by the checkpoints and the front of the file.
 record IsSeen (bytes : List ℕ) (s : IsSomeStore bytes) : Type 0 where
   version : DocStoreVersion
-  view : IsView bytes (checkpoints_of s.blocks) s.period version
+  store : IsStoreBy bytes (checkpoints_of s.blocks) s.period version
   blocks : blocks_at (checkpoints_of s.blocks) (data_in bytes (checkpoints_of s.blocks)) ≡ s.blocks
 
 is_seen : (bytes : List ℕ) (s : IsSomeStore bytes) → IsSeen bytes s
@@ -132,7 +132,7 @@ is_seen bytes s =
     let blocks : blocks_at cs (data_in bytes cs) ≡ s.blocks = blocks_from cs (data_in bytes cs) s.blocks refl front in
     record {
       version = v.0;
-      view = record {
+      store = record {
         covers = subst (λ (n : ℕ). Covers cs n) (sym (ap length front)) covers;
         store = subst (λ (bs : List StoreBlock). IsStore s.period bytes (version_number v.0) bs) (sym blocks) (subst (λ (n : ℕ). IsStore s.period bytes n s.blocks) (sym v.1) s.store);
       };
@@ -147,7 +147,7 @@ stored_index bytes data_len index version s laid =
 
 -- where the block that a seek finds lies
 pub block_placed : (bytes : List ℕ) (s : IsSomeStore bytes) (id : ℕ) (c : Checkpoint) → first_past (checkpoints_of s.blocks) id ≡ Some c → IsPlaced bytes (checkpoints_of s.blocks) id c
-block_placed bytes s id c e = placed bytes (checkpoints_of s.blocks) s.period (is_seen bytes s).version id c (is_seen bytes s).view e
+block_placed bytes s id c e = placed bytes (checkpoints_of s.blocks) s.period (is_seen bytes s).version id c (is_seen bytes s).store e
 
 -- it lies in the data
 pub block_within : (bytes : List ℕ) (s : IsSomeStore bytes) (id : ℕ) (c : Checkpoint) → first_past (checkpoints_of s.blocks) id ≡ Some c → c.byte_range.end ≤ length (data_of s.blocks)
@@ -167,20 +167,20 @@ pub document_placed : (bytes : List ℕ) (s : IsSomeStore bytes) (id : ℕ) (c :
 document_placed bytes s id c e =
     let seen = is_seen bytes s in
     ap (λ (bs : List StoreBlock). exact_result id (slice_get (slots bs) id)) (sym seen.blocks)
-    ∙ ap (exact_result id) (slot_placed bytes (checkpoints_of s.blocks) s.period seen.version id c seen.view e)
+    ∙ ap (exact_result id) (slot_placed bytes (checkpoints_of s.blocks) s.period seen.version id c seen.store e)
 
 -- there is none where a seek finds none
 pub document_none : (bytes : List ℕ) (s : IsSomeStore bytes) (id : ℕ) → first_past (checkpoints_of s.blocks) id ≡ None → document_in bytes s id ≡ Err (InvalidArgument id)
 document_none bytes s id e =
     let seen = is_seen bytes s in
     ap (λ (bs : List StoreBlock). exact_result id (slice_get (slots bs) id)) (sym seen.blocks)
-    ∙ ap (exact_result id) (slot_none bytes (checkpoints_of s.blocks) s.period seen.version id seen.view e)
+    ∙ ap (exact_result id) (slot_none bytes (checkpoints_of s.blocks) s.period seen.version id seen.store e)
 
 -- how many documents there are
 pub count_stored : (bytes : List ℕ) (s : IsSomeStore bytes) → docs_end 0 (checkpoints_of s.blocks) ≡ count_of_store bytes s
 count_stored bytes s =
     let seen = is_seen bytes s in
-    count_is bytes (checkpoints_of s.blocks) s.period seen.version seen.view ∙ ap (λ (bs : List StoreBlock). length (slots bs)) seen.blocks
+    count_is bytes (checkpoints_of s.blocks) s.period seen.version seen.store ∙ ap (λ (bs : List StoreBlock). length (slots bs)) seen.blocks
 
 -- ---- answers
 
@@ -278,16 +278,16 @@ pub block_is_of : (bytes : List ℕ) (s : IsSomeStore bytes) (id : ℕ) (c : Che
     → slice_get (slots s.blocks) k ≡ Some (slot (slice_range bytes c.byte_range.start c.byte_range.end) (k - c.doc_range.start))
 block_is_of bytes s id c e k from to =
     let seen = is_seen bytes s in
-    let v : Viewing = record { file = bytes; period = s.period; version = seen.version; store = blocks_at (checkpoints_of s.blocks) (data_in bytes (checkpoints_of s.blocks)) } in
-    let of = block_seen v (checkpoints_of s.blocks) id c refl seen.view e in
-    ap (λ (bs : List StoreBlock). slice_get (slots bs) k) (sym seen.blocks) ∙ of.goes_on k from to
+    let cs = checkpoints_of s.blocks in
+    ap (λ (bs : List StoreBlock). slice_get (slots bs) k) (sym seen.blocks)
+    ∙ slot_placed bytes cs s.period seen.version k c seen.store (seek_stays 0 0 cs id k c seen.store.covers.in_line e from to)
 
 -- no document stands where a seek finds no block
 pub none_stored : (bytes : List ℕ) (s : IsSomeStore bytes) (id : ℕ) → first_past (checkpoints_of s.blocks) id ≡ None → count_of_store bytes s ≤ id
 none_stored bytes s id e =
-    let seen = is_seen bytes s in
-    let v : Viewing = record { file = bytes; period = s.period; version = seen.version; store = blocks_at (checkpoints_of s.blocks) (data_in bytes (checkpoints_of s.blocks)) } in
-    subst (λ (bs : List StoreBlock). length (slots bs) ≤ id) seen.blocks (block_none v (checkpoints_of s.blocks) id refl seen.view e)
+    let covers = checkpoints_cover s.blocks s.store.blocks in
+    let past = none_past 0 0 (checkpoints_of s.blocks) id covers.in_line e (omega arith) in
+    omega (arith, past, count_stored bytes s)
 
 -- no document stands at or past the count
 pub document_past : (bytes : List ℕ) (s : IsSomeStore bytes) (id : ℕ) → count_of_store bytes s ≤ id → document_in bytes s id ≡ Err (InvalidArgument id)

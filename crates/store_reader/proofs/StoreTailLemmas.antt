@@ -14,8 +14,8 @@ use Rattle.store_reader.specs.Opening.{IsSomeStore}
 use Rattle.store_reader.specs.StoreSlices.{IsLaidOut}
 use Rattle.store_format.specs.declared.version.DocStoreVersion.{DocStoreVersion}
 use Rattle.store_reader.specs.StoreTails.{TailBytes, IsTailOf, IsStoreTail, IsWanted, RefusesTail, TailsAreWantedOnce}
-use Rattle.store_reader.specs.Viewing.{FindsFooter}
-use Rattle.store_reader.proofs.AlikeLemmas.{one_footer}
+use Rattle.store_reader.specs.Finding.{FindsFooter}
+use Rattle.store_reader.proofs.FindsOnceLemmas.{one_footer}
 use Rattle.store_reader.proofs.RefusedLemmas.{parts_of, footer_of}
 use Rattle.store_reader.proofs.StoreSliceLemmas.{found_tail, laid_out, footer_no_store, offset_no_store, index_no_store, finds_footer, finds_past, finds_no_index}
 

@@ -165,9 +165,6 @@ pub record IsBegun (most : ℕ) (old mid : Part) : Type 0 where
   pub reads : mid.reads ≤ old.reads + 1
   pub asked : mid.asked ≤ old.asked + most
 
-pub begun_by_none : (most : ℕ) (file : Part) → IsBegun most file file
-begun_by_none most file = record { content = refl; honest = refl; failures = refl; reads = omega arith; asked = omega arith }
-
 pub begun_by_one : (most from to : ℕ) (bytes : List ℕ) (old mid : Part) → to - from ≤ most → Comes old from to (Ok bytes) mid → IsBegun most old mid
 begun_by_one most from to bytes old mid le came =
     let reads = came.once.reads in

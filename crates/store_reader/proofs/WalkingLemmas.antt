@@ -22,7 +22,7 @@ use Rattle.store_format.specs.Slots.{slots}
 use Rattle.store_reader.specs.Walking.{taken_at, taken_last, IsBlockTaken, HoldsPart, StandsIn, IsWalk, LooksAlong, WalksTo}
 use Rattle.store_reader.proofs.GetAnswerLemmas.{why_none, slot_at}
 use Rattle.store_reader.proofs.LookUpLemmas.{same_file}
-use Rattle.store_reader.proofs.SeekLemmas.{within, next_block, docs_end-take_more, not_all}
+use Rattle.store_reader.proofs.SeekLemmas.{within, first_sought, docs_end-take_more, not_all}
 
 -- once a block was looked up there is one
 pub taken_some : (place : ℕ) (block : Result (List ℕ) StoreError) → 0 < place → taken_at place block ≡ Some block
@@ -51,7 +51,7 @@ pub next_is : (cs : List Checkpoint) (bytes n target : ℕ) (c : Checkpoint) →
     → IsNextBlock cs n target c
 next_is cs bytes n target c covers here lt seeks =
     let more = not_all 0 cs n (omega arith) in
-    let at : slice_get cs n ≡ Some c = sym (next_block 0 0 cs n covers.in_line covers.filled more) ∙ ap (first_past cs) (sym here) ∙ seeks in
+    let at : slice_get cs n ≡ Some c = sym (first_sought cs bytes n covers (omega arith)) ∙ ap (first_past cs) (sym here) ∙ seeks in
     let w = within 0 0 cs target c (omega arith) covers.in_line seeks in
     record { at = at; more = more; start = start_at 0 0 cs n c covers.in_line at ∙ sym here; inside = w.to; end = docs_end-take_more 0 cs n c at }
 

@@ -10,7 +10,7 @@ use Rattle.store_format.specs.StoreFile.{checkpoints_of}
 use Rattle.store_reader.specs.declared.store_check.CheckedStore.{CheckedStore}
 use Rattle.store_reader.specs.Opening.{IsSomeStore}
 use Rattle.store_reader.specs.StoreSlices.{count_of_store}
-use Rattle.store_reader.specs.Viewing.{FindsFooter}
+use Rattle.store_reader.specs.Finding.{FindsFooter}
 
 -- The bytes are the index of a list in line, or this is their first fault.
 abbrev pub IsCheckOf : ℕ → List ℕ → Option IndexFault → Type 0

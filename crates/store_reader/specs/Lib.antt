@@ -13,8 +13,7 @@ pub mod Iteration
 pub mod Walking
 pub mod LookLaws
 pub mod Opening
-pub mod Viewing
-pub mod ViewLaws
+pub mod Finding
 pub mod CallList
 pub mod CallAnswers
 pub mod Parts

@@ -7,7 +7,7 @@ use Rattle.store_format.specs.Slots.{slots}
 use Rattle.store_reader.specs.CallAnswers.{exact_result}
 use Rattle.store_reader.specs.Opening.{IsSomeStore}
 use Rattle.store_reader.specs.StoreSlices.{count_of_store, GivesStored}
-use Rattle.store_reader.specs.Viewing.{given}
+use Rattle.store_reader.specs.Finding.{given}
 
 -- These items are what an iteration gives from this document on, and then it ends.
 abbrev pub AreGivenStored : (bytes : List ℕ) → IsSomeStore bytes → ℕ → List (Result (Bor (List ℕ)) StoreError) → Type 0

@@ -20,7 +20,7 @@ use Rattle.store_reader.specs.declared.block_slice.BlockSlice.{BlockSlice}
 use Rattle.store_reader.specs.declared.store_head.StoreHead.{StoreHead}
 use Rattle.store_reader.specs.CallAnswers.{exact_result}
 use Rattle.store_reader.specs.Opening.{IsSomeStore}
-use Rattle.store_reader.specs.Viewing.{FindsFooter, given}
+use Rattle.store_reader.specs.Finding.{FindsFooter, given}
 
 -- What the document of this id is in the store whose file these bytes are: its bytes, or the refusal of this id where
 -- there is none or it is damaged.

@@ -12,7 +12,7 @@ use Rattle.store_reader.specs.declared.tail_error.TailError.{TailError}
 use Rattle.store_reader.specs.declared.tail_error.TailError.TheVariants.{Short, Store}
 use Rattle.store_reader.specs.Opening.{IsSomeStore}
 use Rattle.store_reader.specs.StoreSlices.{IsLaidOut}
-use Rattle.store_reader.specs.Viewing.{FindsFooter, Finds}
+use Rattle.store_reader.specs.Finding.{FindsFooter, Finds}
 
 -- how long a file is, and the last bytes of it
 pub record TailBytes : Type 0 where

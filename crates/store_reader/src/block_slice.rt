@@ -4,7 +4,7 @@ ghost use Rattle.std.specs.Prelude.{IfOk, IfErr, IsOkAnd, Some};
 ghost use Rattle.layered_index.specs.Checkpoint.{first_past};
 ghost use Rattle.store_format.specs.StoreFile.{checkpoints_of, data_of};
 ghost use Rattle.store_reader.specs.Opening.{IsSomeStore};
-ghost use Rattle.store_reader.specs.Viewing.{placed_in};
+ghost use Rattle.store_reader.specs.Finding.{placed_in};
 ghost use Rattle.store_reader.specs.StoreSlices.{document_in, IsBlockSlice};
 
 use layered_index::Checkpoint;

@@ -1,5 +1,5 @@
 //! Iterations over the documents that a reader has. `Items` is the iterator, and its `Walk` is its position. Those of
-//! views are in `documents`, and those of slices in `slice_documents`.
+//! slices are in `slice_documents`.
 ghost use Rattle.std.specs.Prelude.{◌≡◌};
 ghost use Rattle.store_reader.specs.Walking.{set_of, set_in};
 

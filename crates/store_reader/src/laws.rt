@@ -4,13 +4,11 @@ ghost use Rattle.store_reader.specs.CacheSums.{StatsAreAdded};
 ghost use Rattle.store_reader.specs.LookLaws.{LooksAreRecent, LookUpsAreCounted, WalksLookUp};
 ghost use Rattle.store_reader.specs.CallAnswers.{AnswersAreExact, SlotsDecideAnswers};
 ghost use Rattle.store_reader.specs.Laws.{StoredDocumentsAreGot};
-ghost use Rattle.store_reader.specs.ViewLaws.{ViewsOpenAsReaders, ViewsAnswerAsReaders, ViewsReadAsReaders};
 ghost use Rattle.store_reader.specs.SliceLaws.{SlicesGiveEachSlot};
 ghost use Rattle.store_reader.specs.StoreTails.{TailsAreWantedOnce};
 ghost use Rattle.store_reader.specs.TwoReads.{BlocksSayCounts};
-ghost use Rattle.store_reader.specs.ViewLaws.{ViewsGiveEachSlot, ViewsGiveEachAlive};
 
-use store_base::{DocumentDeserialize, StoredDocument};
+use store_base::StoredDocument;
 
 /// Blocks that are looked up one after the other take the cache through the definition's steps, and the file is read
 /// once for each that isn't kept.
@@ -55,35 +53,6 @@ pub fn slots_decide_answers()
 /// calls: a document's bytes, or the refusal of the id where there is no document or it is damaged.
 pub fn answers_are_exact()
     ensures { AnswersAreExact }
-{}
-
-/// `StoreView::open` opens what `StoreReader::open` opens of an honest file of the same bytes: the same blocks, version
-/// and period, or the same refusal; failed reads and memory aside.
-pub fn views_open_as_readers()
-    ensures { ViewsOpenAsReaders }
-{}
-
-/// `StoreView::get` returns what `StoreReader::get_document_bytes` returns of an honest file of the same store; failed
-/// reads and memory aside.
-pub fn views_answer_as_readers()
-    ensures { ViewsAnswerAsReaders }
-{}
-
-/// `StoreView::get_document` returns what `StoreReader::get` returns of an honest file of the same store; failed reads
-/// and memory aside.
-pub fn views_read_as_readers<D: DocumentDeserialize>()
-    ensures { (version : ℕ) → ViewsReadAsReaders (D.reading version) }
-{}
-
-/// What `StoreView::iter` gives to its end is what each slot answers, in order.
-pub fn views_give_each_slot()
-    ensures { ViewsGiveEachSlot }
-{}
-
-/// What `StoreView::iter_alive` gives to its end is what the slot of each id that is alive answers, in order, with
-/// the id.
-pub fn views_give_each_alive()
-    ensures { ViewsGiveEachAlive }
 {}
 
 /// What `StoreSlice::iter` gives to its end is what each slot answers, in order. An iteration that begins at a later

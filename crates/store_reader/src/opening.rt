@@ -1,13 +1,14 @@
-//! Opening a store, in a file or in bytes that another holds: the footer, then where the index lies, then the index.
-//! The first error is returned.
-ghost use Rattle.std.specs.Prelude.{◌≡◌, ◌≢◌, ◌≤◌, ◌<◌, ◌-◌, length, IfOk, IfErr};
+//! Opening a store in a file: the footer, then where the index lies, then the index. The first error is returned.
+ghost use Rattle.std.specs.Prelude.{◌≡◌, ◌≢◌, ◌≤◌, ◌<◌, ◌-◌, length, IfOk, IfErr, MatchResult};
+ghost use Rattle.layered_index.specs.Refusal.{RefusesOnlyUnless};
+ghost use Rattle.store_reader.specs.Covering.{IsIndexOf, HasIndexOf};
 ghost use Rattle.store_reader.specs.Opening.{ReadsIndex, Opens};
-ghost use Rattle.store_reader.specs.Viewing.{FindsFooter, FindsIndex, Finds};
+ghost use Rattle.store_reader.specs.Finding.{FindsFooter};
 
-use crate::store_index::StoreIndex;
+use layered_index::SkipIndex;
 use std::alloc::Global;
 use std::ops::Range;
-use store_base::{FileHandle, FileSlice, NoMemory, OwnedBytes, StoreError};
+use store_base::{FileHandle, FileSlice, OwnedBytes, StoreError};
 use store_format::{DocStoreFooter, FOOTER_LEN, footer_in, read_footer, read_part};
 
 /// Where the index lies in a file of `file_len` bytes: between the offset and the footer. It returns `BadOffset` where
@@ -27,12 +28,35 @@ pub(crate) fn index_range(footer: &DocStoreFooter, file_len: u64) -> Result<Rang
     Ok(footer.offset..end)
 }
 
+// The index in these bytes. It is refused unless they are the index of checkpoints that cover this many bytes.
+fn index_in(
+    alloc: Global,
+    bytes: OwnedBytes,
+    period: u8,
+    covered: u64,
+) -> Result<SkipIndex, StoreError>
+    requires least { 2 ≤ period }
+    requires most { period ≤ 64 }
+    ensures { MatchResult result
+        (λ index. (index.period ≡ period) × IsIndexOf period bytes covered index.checkpoints)
+        (RefusesOnlyUnless (HasIndexOf period bytes covered)) }
+{
+    let index = SkipIndex::open_with_period(alloc, bytes, period)?;
+    let Some((_num_docs, end)) = index.covered_to() else {
+        return Err(StoreError::BadIndex);
+    };
+    if end as u64 != covered {
+        return Err(StoreError::BadIndex);
+    }
+    Ok(index)
+}
+
 // Reads the index of a file with this footer.
 fn read_index<H: FileHandle>(
     file: &mut FileSlice<H>,
     alloc: Global,
     footer: &DocStoreFooter,
-) -> Result<StoreIndex, StoreError>
+) -> Result<SkipIndex, StoreError>
     requires long { 28 ≤ length file.old.content }
     requires least { 2 ≤ footer.now.period }
     requires most { footer.now.period ≤ 64 }
@@ -40,14 +64,14 @@ fn read_index<H: FileHandle>(
 {
     let range = index_range(footer, file.len())?;
     let bytes = read_part(file, alloc, range)?;
-    StoreIndex::read(alloc, bytes, footer.period, footer.offset)
+    index_in(alloc, bytes, footer.period, footer.offset)
 }
 
 /// Reads the footer and the index of a file. The file keeps its range.
 pub(crate) fn read_store<H: FileHandle>(
     file: &mut FileSlice<H>,
     alloc: Global,
-) -> Result<(DocStoreFooter, StoreIndex), StoreError>
+) -> Result<(DocStoreFooter, SkipIndex), StoreError>
     ensures { Opens file.old result file.new }
 {
     let footer = read_footer(file, alloc)?;
@@ -66,37 +90,4 @@ pub(crate) fn footer_of(alloc: Global, bytes: &[u8]) -> Result<DocStoreFooter, S
         return Err(StoreError::ShortFile(len as u64));
     }
     footer_in(alloc, &bytes[len - FOOTER_LEN as usize..len])
-}
-
-// A copy of bytes, to be shared.
-fn copied(alloc: Global, bytes: &[u8]) -> Result<OwnedBytes, NoMemory>
-    ensures { IfOk result (λ b. b ≡ bytes.now) }
-{
-    OwnedBytes::new(alloc, Vec::from_slice(alloc, bytes)?)
-}
-
-// The index of a file with this footer, of whose index a copy is made.
-fn index_of(alloc: Global, file: &[u8], footer: &DocStoreFooter) -> Result<StoreIndex, StoreError>
-    requires long { 28 ≤ length file.now }
-    requires least { 2 ≤ footer.now.period }
-    requires most { footer.now.period ≤ 64 }
-    ensures { FindsIndex file.now footer.now result }
-{
-    let range = index_range(footer, file.len() as u64)?;
-    match copied(alloc, &file[range.start as usize..range.end as usize]) {
-        Ok(bytes) => StoreIndex::read(alloc, bytes, footer.period, footer.offset),
-        Err(_) => Err(StoreError::Memory),
-    }
-}
-
-/// The footer and the index of a file whose bytes these are.
-pub(crate) fn view_store(
-    alloc: Global,
-    file: &[u8],
-) -> Result<(DocStoreFooter, StoreIndex), StoreError>
-    ensures { Finds file.now result }
-{
-    let footer = footer_of(alloc, file)?;
-    let index = index_of(alloc, file, &footer)?;
-    Ok((footer, index))
 }

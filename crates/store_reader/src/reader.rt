@@ -3,7 +3,7 @@ ghost use Rattle.std.specs.Prelude.{◌≡◌, ◌<◌, ◌≤◌, IsTrue, IfOk,
 ghost use Rattle.std.specs.Prelude.{ℕ, ◌+◌, ◌*◌, ◌-◌, length, slice_get, slice_range, take};
 ghost use Rattle.store_base.specs.Counts.{HasRisen, raised};
 ghost use Rattle.store_reader.specs.GetAnswer.{IsAnswered, AnswersTruly};
-ghost use Rattle.layered_index.specs.Checkpoint.{Covers, first_past};
+ghost use Rattle.layered_index.specs.Checkpoint.{Covers, docs_end, first_past};
 ghost use Rattle.store_reader.specs.Documents.{document_version, IsGot, ReadsTruly};
 ghost use Rattle.store_format.specs.Footer.{version_number};
 ghost use Rattle.store_reader.specs.CachedBlocks.{last_key};
@@ -24,9 +24,8 @@ use crate::document_reading::read_document;
 use crate::iter::{DocIter, Items, RawIter, sets_of};
 use crate::look_up::{EnteredBlock, look_up};
 use crate::opening::read_store;
-use crate::store_index::StoreIndex;
 use crate::walk::{DocWalk, first_walk};
-use layered_index::{Checkpoint, LayerCursor, Steps};
+use layered_index::{Checkpoint, LayerCursor, SkipIndex, Steps};
 use std::alloc::Global;
 use std::marker::{Model, PhantomData};
 use std::ops::Range;
@@ -43,7 +42,7 @@ pub const DOCSTORE_CACHE_CAPACITY: usize = 100;
 #[derive(Drop)]
 pub struct StoreReader<H: FileHandle> {
     file: FileSlice<H>,
-    index: StoreIndex,
+    index: SkipIndex,
     version: DocStoreVersion,
     decompressor: Decompressor,
     cache: BlockCache,
@@ -173,13 +172,13 @@ impl<H: FileHandle> StoreReader<H> {
         read_document(alloc, self.version, bytes)
     }
 
-    // Looks the block up that has a document, for all of its documents.
-    pub(crate) fn enter(&mut self, alloc: Global, doc_id: DocId) -> EnteredBlock
-        requires { doc_id < num_docs self.old }
-        ensures entered { IsEntered self.old doc_id result self.new }
+    // Looks the block with this number up, for all of its documents. Nothing is sought.
+    pub(crate) fn enter(&mut self, alloc: Global, number: usize) -> EnteredBlock
+        requires { docs_end 0 (take number self.old.checkpoints) < num_docs self.old }
+        ensures entered { IsEntered self.old (docs_end 0 (take number self.old.checkpoints)) result self.new }
         ensures covers { Covers self.old.checkpoints (length self.old.file.content) }
     {
-        let checkpoint = self.index.seek(doc_id).unwrap();
+        let checkpoint = self.index.get(number).unwrap();
         let block = look_up(
             &mut self.file,
             &mut self.cache,
@@ -256,7 +255,10 @@ impl<H: FileHandle> StoreReader<H> {
         ensures covers { Covers self.now.checkpoints (length self.now.file.content) }
         ensures slots { result ≡ length (slots (store_of self.now)) }
     {
-        self.index.num_docs()
+        let Some((num_docs, _end)) = self.index.covered_to() else {
+            unreachable!()
+        };
+        num_docs
     }
 
     /// How the store's documents are spelled.
@@ -317,7 +319,7 @@ impl<H: FileHandle> StoreReader<H> {
     pub fn space_usage(&self) -> StoreSpaceUsage
         ensures { result ≡ (length self.now.file.content, length (index_part self.now.period self.now.checkpoints)) }
     {
-        StoreSpaceUsage::new(self.file.len(), self.index.len())
+        StoreSpaceUsage::new(self.file.len(), self.index.byte_len() as u64)
     }
 
     /// Where the blocks lie, in order.

@@ -3,7 +3,7 @@
 ghost use Rattle.std.specs.Prelude.{◌≡◌, Some};
 ghost use Rattle.store_reader.specs.CallAnswers.{exact_result};
 ghost use Rattle.store_reader.specs.GetAnswer.{Answers};
-ghost use Rattle.store_reader.specs.Viewing.{given};
+ghost use Rattle.store_reader.specs.Finding.{given};
 ghost use Rattle.store_format.specs.Block.{slot};
 
 use store_base::{DocId, OwnedBytes, StoreError};

@@ -8,7 +8,7 @@ ghost use Rattle.layered_index.specs.Rows.{lower_layers, rows_looked_at};
 ghost use Rattle.store_format.specs.StoreFile.{checkpoints_of};
 ghost use Rattle.store_reader.specs.Opening.{IsSomeStore};
 ghost use Rattle.store_reader.specs.StoreSlices.{document_in, IsBlockSlice, IsOutline, RefusesOne};
-ghost use Rattle.store_reader.specs.Viewing.{placed_in};
+ghost use Rattle.store_reader.specs.Finding.{placed_in};
 
 use crate::block_slice::{BlockSlice, found_block};
 use layered_index::{LayerMarks, LowerLayers, Row, Steps};

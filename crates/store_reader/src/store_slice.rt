@@ -13,7 +13,7 @@ ghost use Rattle.store_format.specs.Slots.{slots};
 ghost use Rattle.store_format.specs.StoreFile.{checkpoints_of, data_of};
 ghost use Rattle.store_reader.specs.Documents.{document_version, ReadsFrom, ReadsTruly};
 ghost use Rattle.store_reader.specs.Opening.{IsSomeStore};
-ghost use Rattle.store_reader.specs.Viewing.{Finds, given, placed_in};
+ghost use Rattle.store_reader.specs.Finding.{Finds, given, placed_in};
 ghost use Rattle.store_reader.specs.StoreSlices.{document_in, count_of_store, IsPartOf, IsBlockSlice, AreLeft, IsAmid};
 ghost use Rattle.store_reader.specs.StoreSlices.{IsOutline, RefusesOne, RefusesReading};
 ghost use Rattle.store_reader.specs.StoreTails.{HasIndexIn};

@@ -56,7 +56,7 @@ fn enter_next<H: FileHandle>(reader: &mut StoreReader<H>, alloc: Global, walk: &
     ensures inside { walk.new.next < walk.new.end }
     ensures place { walk.new.place ≡ walk.old.place + 1 }
 {
-    let entered = reader.enter(alloc, walk.next);
+    let entered = reader.enter(alloc, walk.place);
     walk.place += 1;
     walk.first = entered.first;
     walk.end = entered.end;

@@ -1,4 +1,4 @@
-//! Are lists of calls, the functions of the main theorem, views and merges answered where there is memory?
+//! Are lists of calls, the functions of the main theorem, slices and merges answered where there is memory?
 #![tactic(auto)]
 
 #[cfg(test)]
@@ -8,4 +8,4 @@ mod lists;
 #[cfg(test)]
 mod merging;
 #[cfg(test)]
-mod viewing;
+mod slicing;

@@ -5,19 +5,18 @@ ghost use Rattle.std.specs.Prelude.{OnOk, OnErr, IfErr, IfSome, IsErrOf};
 ghost use Rattle.std.specs.List.{sum_by, AllByRecursion};
 ghost use Rattle.layered_index.specs.Checkpoint.{doc_count, IsFilled, IsInLineFrom};
 ghost use Rattle.store_format.specs.StoreFile.{StoreBlock, docs_in, blocks_at};
-ghost use Rattle.docstore.specs.BlockOutput.{with_blocks, with_risen, IsSound, FailsFor, AfterBlock};
+ghost use Rattle.docstore.specs.BlockOutput.{with_blocks, with_risen, IsSound, FailsFor};
 ghost use Rattle.store_reader.specs.Reading.{num_docs as docs_of, IsReadWhole};
 ghost use Rattle.docstore.specs.Stacking.{AreRead, CutAll, laid_from, AfterStacking};
 ghost use Rattle.store_reader.specs.Parts.{number_of_parts};
 ghost use Rattle.docstore.specs.StackingInParts.{IsReadInPieces, IsReadAtMost, AfterStackingInParts};
-ghost use Rattle.store_reader.specs.Viewing.{count_in};
 
 use super::BlockCompressor;
 use crate::block_index::BlockIndex;
 use layered_index::{Checkpoint, CheckpointRange};
 use store_base::{Cause, FileHandle, StoreError, TerminatingWrite};
 use store_format::DocStoreVersion;
-use store_reader::{StorePart, StoreReader, StoreView};
+use store_reader::{StorePart, StoreReader};
 
 impl<W: TerminatingWrite> BlockCompressor<W> {
     /// Appends the blocks of a store as they come from its file, damaged ones too.
@@ -92,25 +91,6 @@ impl<W: TerminatingWrite> BlockCompressor<W> {
             next_block = blocks.end;
             self.write_blocks(bytes.as_slice(), reader.checkpoints_in(blocks))?;
         }
-        Ok(())
-    }
-
-    /// Appends the blocks of a store whose bytes are in memory.
-    pub(crate) fn stack_view(&mut self, view: &StoreView<'_>) -> Result<(), StoreError>
-        requires few_docs { docs_in self.old.finished + count_in view.now < 2 ^ 32 }
-        ensures stacked { OnOk result (self.new
-            ≡ with_risen self.new.failures (with_blocks self.old view.now.store)) }
-        ensures works { OnOk result (self.old.failure ≡ None) }
-        ensures err { IfErr result (AfterBlock self.old self.new) }
-        ensures termination { self.new.termination ≡ self.old.termination }
-        ensures count { self.old.failures ≤ self.new.failures }
-        ensures steady { IsErrOf result (StoreError.Failed Cause.Write)
-            ⊎ (self.new.failures ≡ self.old.failures) }
-        ensures sound { IsSound self.new }
-    {
-        self.check_works()?;
-        let blocks = 0..view.num_blocks();
-        self.write_blocks(view.block_data(), view.checkpoints_in(blocks))?;
         Ok(())
     }
 

@@ -5,15 +5,14 @@ ghost use Rattle.store_format.specs.StoreFile.{StoreBlock};
 ghost use Rattle.docstore.specs.Writer.{with_failures, IsStoreWriter};
 ghost use Rattle.store_reader.specs.Reading.{IsReadWhole, IsReadAtMostOnce};
 ghost use Rattle.docstore.specs.Stacking.{AreRead, with_store, IsOld, HasTooMany, AfterStack};
-ghost use Rattle.docstore.specs.Stacking.{HasRoomFor, HasNoIdsFor, HasNoRoomFor, AfterStackedView};
+ghost use Rattle.docstore.specs.Stacking.{HasRoomFor, HasNoRoomFor};
 ghost use Rattle.store_reader.specs.Parts.{number_of_parts};
 ghost use Rattle.docstore.specs.StackingInParts.{IsReadInPieces, IsReadAtMost, AfterStackInParts};
-ghost use Rattle.store_reader.specs.Viewing.{count_in};
 
 use super::{StoreWriter, flush};
 use store_base::{Cause, FileHandle, StoreError, TerminatingWrite};
 use store_format::DocStoreVersion;
-use store_reader::{StoreReader, StoreView};
+use store_reader::StoreReader;
 
 impl<W: TerminatingWrite> StoreWriter<W> {
     // Refuses where a store in this form, with this many documents, can't be stacked.
@@ -108,35 +107,5 @@ impl<W: TerminatingWrite> StoreWriter<W> {
         flush(&mut self.current_block, &mut self.block_compressor)?;
         self.block_compressor
             .stack_reader_in_parts(reader, part_bytes)
-    }
-
-    /// Appends the documents of a store whose bytes are in memory to those that were taken, as `stack` does.
-    ///
-    /// Nothing is read and nothing copied but into the output. After `Failed` the writer answers only
-    /// `Failed`. Any other error leaves it as it was.
-    pub fn stack_view(&mut self, view: &StoreView<'_>) -> Result<(), StoreError>
-        ensures stacked { OnOk result (self.new
-            ≡ with_failures self.new.output.failures (with_store self.old view.now.store)) }
-        ensures works { OnOk result (self.old.output.failure ≡ None) }
-
-        // Each cause, where none above it holds.
-        ensures failed { IfSome self.old.output.failure (λ cause. IsErrOf result (StoreError.Failed cause)) }
-        ensures old_version { IsErrOf result StoreError.OldVersion
-            ↔ ((self.old.output.failure ≡ None) × (view.now.version ≡ DocStoreVersion.V1)) }
-        ensures too_many { IsErrOf result StoreError.TooManyDocs
-            ↔ HasNoIdsFor self.old view.now.version (count_in view.now) }
-
-        // After an error: as it was, or failed for good.
-        ensures err { IfErr result (AfterStackedView self.old self.new) }
-
-        ensures termination { self.new.output.termination ≡ self.old.output.termination }
-        ensures count { self.old.output.failures ≤ self.new.output.failures }
-        ensures steady { IsErrOf result (StoreError.Failed Cause.Write)
-            ⊎ (self.new.output.failures ≡ self.old.output.failures) }
-        ensures sound { IsStoreWriter self.new }
-    {
-        self.check_room_for(view.version(), view.num_docs())?;
-        flush(&mut self.current_block, &mut self.block_compressor)?;
-        self.block_compressor.stack_view(view)
     }
 }

@@ -32,7 +32,7 @@ impl<H: FileHandle> StoreReader<H> {
     pub fn num_blocks(&self) -> usize
         ensures { result ≡ length self.now.checkpoints }
     {
-        self.index.num_blocks()
+        self.index.len()
     }
 
     /// Where the blocks with these numbers lie, in order.

@@ -1,5 +1,5 @@
 use Rattle.std.proofs.Common.{refl, arith}
-use Rattle.store_reader.proofs.AlikeLemmas.{footer_or_refusal, one_footer}
+use Rattle.store_reader.proofs.FindsOnceLemmas.{footer_or_refusal, one_footer}
 use Rattle.store_c.proofs.CheckingLemmas.{check_of, index_at, says_footer}
 use Rattle.store_c.proofs.checking.index_fault.Goals as goal
 

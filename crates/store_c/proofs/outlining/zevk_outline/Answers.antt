@@ -1,4 +1,4 @@
-use Rattle.std.proofs.Common.{ℕ, ◌-◌, List, inr, ap, ◌∙◌, subst}
+use Rattle.std.proofs.Common.{ℕ, List, inr, ap, ◌∙◌, subst}
 use Rattle.store_base.specs.Outcome.{number_of}
 use Rattle.store_reader.specs.Opening.{IsSomeStore}
 use Rattle.store_c.proofs.FirstRefusalLemmas.{head_first, no_index_in}

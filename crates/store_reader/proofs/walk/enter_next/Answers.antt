@@ -1,6 +1,7 @@
-use Rattle.std.proofs.Common.{◌≡◌, ◌+◌, ◌-◌, take, sym, ap, ◌∙◌, arith}
+use Rattle.std.proofs.Common.{◌≡◌, ℕ, ◌+◌, ◌-◌, take, sym, ap, ◌∙◌, subst, arith}
 use Rattle.layered_index.specs.Checkpoint.{docs_end}
 use Rattle.store_reader.specs.Reading.{Reading}
+use Rattle.store_reader.specs.Walking.{IsEntered}
 use Rattle.store_reader.proofs.SeekLemmas.{docs_at_least}
 use Rattle.store_reader.proofs.WalkingLemmas.{IsNextBlock, taken_some, next_is, holds_next, only_next}
 use Rattle.store_reader.proofs.walk.enter_next.Goals as goal
@@ -11,14 +12,21 @@ overflow_add-walk g c =
     let end = c.requires.walk.end in let here = c.requires.here in
     omega arith
 
-next : (g : _) (c : goal.Joined-walk-entered g) → IsNextBlock c.args.reader.now.checkpoints c.args.walk.now.place c.args.walk.now.next c.enter-entered.ensures.entered.checkpoint
-next g c = next_is _ _ _ _ _ c.enter-entered.ensures.covers (c.requires.here ∙ c.requires.walk.end) c.requires.more c.enter-entered.ensures.entered.looked.looked.seeks
+pub enter-entered-requires : goal.enter-entered-requires
+enter-entered-requires g c = let end = c.requires.walk.end in let here = c.requires.here in let more = c.requires.more in omega arith
+
+-- the block is that of the next document
+entered : (g : _) (c : goal.Joined-walk-entered g) → IsEntered c.args.reader.now c.args.walk.now.next c.enter-entered.result c.enter-entered.new.self
+entered g c = subst (λ (id : ℕ). IsEntered c.args.reader.now id c.enter-entered.result c.enter-entered.new.self) (sym (c.requires.here ∙ c.requires.walk.end)) c.enter-entered.ensures.entered
+
+next : (g : _) (c : goal.Joined-walk-entered g) → IsNextBlock c.args.reader.now.checkpoints c.args.walk.now.place c.args.walk.now.next (entered g c).checkpoint
+next g c = next_is _ _ _ _ _ c.enter-entered.ensures.covers (c.requires.here ∙ c.requires.walk.end) c.requires.more (entered g c).looked.looked.seeks
 
 pub returns-clause-walk : goal.returns-clause-walk
 returns-clause-walk g c =
     let cs = c.args.reader.now.checkpoints in
     let n = next g c in
-    let e = c.enter-entered.ensures.entered in
+    let e = entered g c in
     let same : c.enter-entered.new.self.checkpoints ≡ cs = ap (λ (r : Reading). r.checkpoints) e.looked.looked.stays in
     let more = n.more in let inside = n.inside in let start = n.start in let first = e.first in let end = e.end in
     let place : (c.args.walk.now.place + 1) - 1 ≡ c.args.walk.now.place = omega arith in
@@ -37,7 +45,7 @@ returns-clause-walk g c =
 pub returns-clause-taken : goal.returns-clause-taken
 returns-clause-taken g c =
     let n = next g c in
-    rw (taken_some (c.args.walk.now.place + 1) c.enter-entered.result.block (omega arith)) (c.enter-entered.ensures.entered.checkpoint, n.at, n.start, c.enter-entered.ensures.entered.looked)
+    rw (taken_some (c.args.walk.now.place + 1) c.enter-entered.result.block (omega arith)) ((entered g c).checkpoint, n.at, n.start, (entered g c).looked)
 
 pub returns-clause-inside : goal.returns-clause-inside
-returns-clause-inside g c = let n = (next g c).inside in let end = c.enter-entered.ensures.entered.end in omega arith
+returns-clause-inside g c = let n = (next g c).inside in let end = (entered g c).end in omega arith

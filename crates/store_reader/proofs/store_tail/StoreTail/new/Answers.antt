@@ -1,7 +1,7 @@
 use Rattle.std.proofs.Common.{◌≡◌, ℕ, ◌-◌, ◌+◌, ◌≤◌, length, inl, inr, sym, ap, ◌∙◌, arith}
 use Rattle.std.specs.Prelude.{slice_range, Err}
 use Rattle.store_reader.specs.declared.tail_error.TailError.TheVariants.{Short}
-use Rattle.store_reader.proofs.AlikeLemmas.{footer_or_refusal}
+use Rattle.store_reader.proofs.FindsOnceLemmas.{footer_or_refusal}
 use Rattle.store_reader.proofs.StoreTailLemmas.{short_file, bad_footer, bad_offset, bad_index, wanted_index, none_wanted, wanted_from, tail_laid_out}
 use Rattle.store_reader.proofs.store_tail.StoreTail.new.Goals as goal
 use Rattle.store_reader.proofs.store_tail.StoreTail.new.Goals.{then-file_len-via-then-file_len, then-file_len-via-else-file_len+then-file_len-tail}

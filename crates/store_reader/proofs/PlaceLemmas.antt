@@ -1,20 +1,16 @@
--- Where the documents lie in a store over bytes that another holds.
-use Rattle.std.proofs.Common.{◌≡◌, ℕ, zero, suc, ◌+◌, ◌-◌, ◌<◌, ◌≤◌, true, false, List, [], ◌∷◌, ◌++◌, length, length-append, take, nat_lt, Some, None, refl, sym, ap, ◌∙◌, subst, arith}
+-- Where the documents lie in the bytes of a store's file.
+use Rattle.std.proofs.Common.{◌≡◌, ℕ, zero, suc, ◌+◌, ◌-◌, ◌<◌, ◌≤◌, true, false, List, [], ◌∷◌, length, take, nat_lt, Some, None, refl, sym, ap, ◌∙◌, subst, arith}
 use Rattle.std.specs.Prelude.{slice_range, slice_get}
 use Rattle.std.proofs.lemmas.Bool.{lt-ltb, le-ltb}
-use Rattle.store_format.specs.FooterLemmas.{form_reserved}
 use Rattle.store_base.proofs.Ranges.{part_of_part}
 use Rattle.layered_index.specs.declared.checkpoint.Checkpoint.{Checkpoint}
 use Rattle.layered_index.specs.Checkpoint.{IsInLineFrom, bytes_end, docs_end, first_past}
-use Rattle.layered_index.specs.Layers.{index_part}
 use Rattle.store_format.specs.declared.version.DocStoreVersion.{DocStoreVersion}
-use Rattle.store_format.specs.Block.{slot, start_of, end_of}
-use Rattle.store_format.specs.Footer.{footer, version_number}
+use Rattle.store_format.specs.Block.{slot}
 use Rattle.store_reader.specs.Reading.{part_of}
 use Rattle.store_format.specs.Slots.{slots}
-use Rattle.store_format.specs.StoreFile.{StoreBlock, blocks_at, data_of, checkpoints_of}
-use Rattle.store_reader.specs.Viewing.{Viewing, IsView, IsBlockWith, StandsAt, count_in, data_in}
-use Rattle.store_format.proofs.ExtractionLemmas.{length-footer}
+use Rattle.store_format.specs.StoreFile.{StoreBlock, blocks_at, checkpoints_of}
+use Rattle.store_reader.specs.Finding.{IsStoreBy, data_in}
 use Rattle.store_reader.proofs.ReaderStoreLemmas.{blocks_of, store_is, store_seen}
 use Rattle.store_reader.proofs.SeekLemmas.{within, none_past}
 use Rattle.store_reader.proofs.StoreSlotLemmas.{slot_sought, slot_past, length-slots_of}
@@ -36,7 +32,7 @@ pub record IsPlaced (file : List ℕ) (cs : List Checkpoint) (id : ℕ) (c : Che
   pub part : part_of (data_in file cs) c ≡ slice_range file c.byte_range.start c.byte_range.end
 
 pub placed : (file : List ℕ) (cs : List Checkpoint) (period : ℕ) (version : DocStoreVersion) (id : ℕ) (c : Checkpoint)
-    → IsView file cs period version → first_past cs id ≡ Some c → IsPlaced file cs id c
+    → IsStoreBy file cs period version → first_past cs id ≡ Some c → IsPlaced file cs id c
 placed file cs period version id c v e =
     let w = within 0 0 cs id c (omega arith) v.covers.in_line e in
     let low = w.end in let order = w.order in
@@ -54,7 +50,7 @@ placed file cs period version id c v e =
     }
 
 -- the slot of a document is that of its place in the block that a seek finds
-pub slot_placed : (file : List ℕ) (cs : List Checkpoint) (period : ℕ) (version : DocStoreVersion) (id : ℕ) (c : Checkpoint) → IsView file cs period version → first_past cs id ≡ Some c
+pub slot_placed : (file : List ℕ) (cs : List Checkpoint) (period : ℕ) (version : DocStoreVersion) (id : ℕ) (c : Checkpoint) → IsStoreBy file cs period version → first_past cs id ≡ Some c
     → slice_get (slots (blocks_at cs (data_in file cs))) id ≡ Some (slot (slice_range file c.byte_range.start c.byte_range.end) (id - c.doc_range.start))
 slot_placed file cs period version id c v e =
     let text = data_in file cs in
@@ -65,7 +61,7 @@ slot_placed file cs period version id c v e =
     ∙ ap (λ (b : List ℕ). Some (slot b (id - c.doc_range.start))) (placed file cs period version id c v e).part
 
 -- there is none where a seek finds none
-pub slot_none : (file : List ℕ) (cs : List Checkpoint) (period : ℕ) (version : DocStoreVersion) (id : ℕ) → IsView file cs period version
+pub slot_none : (file : List ℕ) (cs : List Checkpoint) (period : ℕ) (version : DocStoreVersion) (id : ℕ) → IsStoreBy file cs period version
     → first_past cs id ≡ None → slice_get (slots (blocks_at cs (data_in file cs))) id ≡ None
 slot_none file cs period version id v e =
     let text = data_in file cs in
@@ -73,7 +69,7 @@ slot_none file cs period version id v e =
     ∙ slot_past text 0 cs id v.covers.in_line (none_past 0 0 cs id v.covers.in_line e (omega arith))
 
 -- how many there are
-pub count_is : (file : List ℕ) (cs : List Checkpoint) (period : ℕ) (version : DocStoreVersion) → IsView file cs period version → docs_end 0 cs ≡ length (slots (blocks_at cs (data_in file cs)))
+pub count_is : (file : List ℕ) (cs : List Checkpoint) (period : ℕ) (version : DocStoreVersion) → IsStoreBy file cs period version → docs_end 0 cs ≡ length (slots (blocks_at cs (data_in file cs)))
 count_is file cs period version v =
     let text = data_in file cs in
     let same = ap (λ (bs : List StoreBlock). length (slots bs)) (store_is text cs v.covers) in
@@ -109,70 +105,8 @@ seek_stays first byte (x ∷ cs) id k c r e from to = (elim (nat_lt id x.doc_ran
       rw (le-ltb k x.doc_range.end (omega arith)) (seek_stays x.doc_range.end x.byte_range.end cs id k c r.3 found from to)
 ]) refl
 
-pub block_placed : (v : Viewing) (cs : List Checkpoint) (id : ℕ) (c : Checkpoint) → v.store ≡ blocks_at cs (data_in v.file cs) → IsView v.file cs v.period v.version → first_past cs id ≡ Some c
-    → IsBlockWith v id c.doc_range.start c.doc_range.end (slice_range v.file c.byte_range.start c.byte_range.end)
-block_placed v cs id c is view e =
-    let w = within 0 0 cs id c (omega arith) view.covers.in_line e in
-    let count = count_is v.file cs v.period v.version view in
-    let same = ap (λ (bs : List StoreBlock). length (slots bs)) is in
-    let last = w.last in
-    record {
-      from = w.from;
-      to = w.to;
-      few = omega arith;
-      goes_on = λ k from to. ap (λ (bs : List StoreBlock). slice_get (slots bs) k) is ∙ slot_placed v.file cs v.period v.version k c view (seek_stays 0 0 cs id k c view.covers.in_line e from to);
-    }
-
-pub block_none : (v : Viewing) (cs : List Checkpoint) (id : ℕ) → v.store ≡ blocks_at cs (data_in v.file cs) → IsView v.file cs v.period v.version → first_past cs id ≡ None → count_in v ≤ id
-block_none v cs id is view e =
-    let past = none_past 0 0 cs id view.covers.in_line e (omega arith) in
-    let count = count_is v.file cs v.period v.version view in
-    let same = ap (λ (bs : List StoreBlock). length (slots bs)) is in
-    omega arith
-
 -- ---- the checkpoints
 
 -- the checkpoints are those of the store
-pub checkpoints_are : (file : List ℕ) (cs : List Checkpoint) (period : ℕ) (version : DocStoreVersion) → IsView file cs period version → checkpoints_of (blocks_at cs (data_in file cs)) ≡ cs
+pub checkpoints_are : (file : List ℕ) (cs : List Checkpoint) (period : ℕ) (version : DocStoreVersion) → IsStoreBy file cs period version → checkpoints_of (blocks_at cs (data_in file cs)) ≡ cs
 checkpoints_are file cs period version v = (store_seen (data_in file cs) cs v.covers).checkpoints_are
-
--- a document stands where its block's table says
-pub stands_at : (v : Viewing) (cs : List Checkpoint) (id : ℕ) (c : Checkpoint) (from to : ℕ) → v.store ≡ blocks_at cs (data_in v.file cs)
-    → IsView v.file cs v.period v.version → first_past cs id ≡ Some c
-    → from ≡ start_of (slice_range v.file c.byte_range.start c.byte_range.end) (id - c.doc_range.start) → to ≡ end_of (slice_range v.file c.byte_range.start c.byte_range.end) (id - c.doc_range.start)
-    → StandsAt v id (c.byte_range.start + from) (c.byte_range.start + to)
-stands_at v cs id c from to is view e first last = record {
-  checkpoint = c;
-  seeks = ap (λ (xs : List Checkpoint). first_past xs id) (ap checkpoints_of is ∙ checkpoints_are v.file cs v.period v.version view) ∙ e;
-  first = ap (λ (n : ℕ). c.byte_range.start + n) first;
-  last = ap (λ (n : ℕ). c.byte_range.start + n) last;
-}
-
--- the parts of the file
-pub sizes_are : (file : List ℕ) (cs : List Checkpoint) (period : ℕ) (version : DocStoreVersion) → IsView file cs period version
-    → length file ≡ length (data_of (blocks_at cs (data_in file cs))) + length (index_part period cs) + 28
-sizes_are file cs period version v =
-    let bs = blocks_at cs (data_in file cs) in
-    let text = data_of bs in
-    let index = index_part period (checkpoints_of bs) in
-    let n = version_number version in
-    let foot = footer n (length text) 0 v.store.reserved in
-    let size = length-footer n (length text) 0 v.store.reserved (form_reserved period n v.store.reserved v.store.form) in
-    let same = ap (λ (xs : List Checkpoint). length (index_part period xs)) (checkpoints_are file cs period version v) in
-    omega (arith, ap length v.store.parts, length-append (text ++ index) foot, length-append text index, size, same)
-
--- the data stands before the index
-pub data_stands : (file : List ℕ) (cs : List Checkpoint) (period : ℕ) (version : DocStoreVersion) (end : ℕ) → IsView file cs period version
-    → end ≡ length file - 28 - length (index_part period cs) → slice_range file 0 end ≡ data_of (blocks_at cs (data_in file cs))
-data_stands file cs period version end v is =
-    let seen = store_seen (data_in file cs) cs v.covers in
-    let size : end ≡ bytes_end 0 cs = omega (arith, sizes_are file cs period version v, is, ap length seen.data_is, v.covers.end) in
-    ap (slice_range file 0) size ∙ sym seen.data_is
-
--- how many bytes its data and its index have
-pub usage_is : (file : List ℕ) (cs : List Checkpoint) (period : ℕ) (version : DocStoreVersion) (text index : ℕ) → IsView file cs period version
-    → index ≡ length (index_part period cs) → text ≡ length (data_of (blocks_at cs (data_in file cs)))
-    → ◌≡◌ {A = ℕ × ℕ} (text, index) (length (data_of (blocks_at cs (data_in file cs))), length (index_part period (checkpoints_of (blocks_at cs (data_in file cs)))))
-usage_is file cs period version text index v index_is text_is =
-    let second = index_is ∙ ap (λ (xs : List Checkpoint). length (index_part period xs)) (sym (checkpoints_are file cs period version v)) in
-    λ i. (text_is i, second i)

@@ -2,14 +2,11 @@ use Rattle.std.proofs.Common.{ℕ, refl, sym, ◌∙◌, subst, inl}
 use Rattle.std.proofs.lemmas.Option.{none-some}
 use Rattle.layered_index.specs.Checkpoint.{Covers}
 use Rattle.store_reader.proofs.CoveringLemmas.{IsCovered, some_pair, covers_by, not_covered}
-use Rattle.store_reader.proofs.store_index.StoreIndex.read.Goals as goal
+use Rattle.store_reader.proofs.opening.index_in.Goals as goal
 
 -- the checkpoints passed the test
-passed : (c : goal.Else-end-covered) → IsCovered c.in_ok-index.index.checkpoints c.in-Some.num_docs c.in-Some.end
-passed c = covers_by c.in_ok-index.index.checkpoints c.in-Some.num_docs c.in-Some.end c.in_ok-index.ensures.ok.1.0 (sym c.in-Some.ensures)
-
-pub invariant_of-result : goal.invariant_of-result
-invariant_of-result c = sym (passed c).count
+passed : (c : goal.Else-end-covered) → IsCovered c.in_ok-index.index.checkpoints c.in-Some._num_docs c.in-Some.end
+passed c = covers_by c.in_ok-index.index.checkpoints c.in-Some._num_docs c.in-Some.end c.in_ok-index.ensures.ok.1.0 (sym c.in-Some.ensures)
 
 pub returns-in_default : goal.returns-in_default
 returns-in_default c =
@@ -24,7 +21,7 @@ returns-then-end-covered c =
     inl (
       refl,
       not_covered c.args.period c.args.bytes c.args.covered c.in_ok-index.index.checkpoints c.requires.least c.in_ok-index.ensures.ok.1
-          (λ docs e. c.if-end-covered.true (some_pair c.in-Some.num_docs c.in-Some.end docs c.args.covered (c.in-Some.ensures ∙ e)).1),
+          (λ docs e. c.if-end-covered.true (some_pair c.in-Some._num_docs c.in-Some.end docs c.args.covered (c.in-Some.ensures ∙ e)).1),
     )
 
 pub returns : goal.returns

@@ -1,5 +1,0 @@
-use Rattle.store_reader.proofs.GivenLemmas.{views_give_each_slot}
-use Rattle.store_reader.proofs.laws.views_give_each_slot.Goals as goal
-
-pub returns : goal.returns
-returns c = views_give_each_slot
