@@ -69,16 +69,37 @@ def _reads(ours: str, theirs: str, name: str, most: float, workloads: Dict[str, 
     ]
 
 
-def _opening() -> Goal:
+def _opening() -> List[Goal]:
     common = dict(group="open", length=100)
-    return Goal("`zevk_get` / floor, to the first document", 1.2,
-                _ratio(dict(side="unopened", **common), dict(side="plain", **common)), CHECKS)
+    pairs = [("unopened", "plain", "`zevk_get` / floor", 1.2, CHECKS), ("path", "lmdb", "by path / LMDB", 1.0, UNKNOWN)]
+    return [
+        Goal(f"{name}, to the first document", most,
+             _ratio(dict(side=ours, **common), dict(side=theirs, **common)), reason)
+        for ours, theirs, name, most, reason in pairs
+    ]
 
 
-def _large() -> Goal:
+def _cold() -> List[Goal]:
+    return [
+        Goal(f"by path / LMDB, get, cold, of {length} bytes", 1.2,
+             _ratio(dict(group="cold", side="path", length=length), dict(group="cold", side="lmdb", length=length)),
+             UNKNOWN)
+        for length in (100, 1000, 20000)
+    ]
+
+
+def _large() -> List[Goal]:
+    """Gets and opens of 10^7 blocks."""
     common = dict(group="growth", workload="uniform", documents=10**7)
-    return Goal("`zevk_get` / LMDB, get, 10^7 blocks", 1.0,
-                _ratio(dict(side="unopened", **common), dict(side="lmdb", **common)), LAYERS)
+    gets = [("unopened", "`zevk_get` / LMDB", 1.0, LAYERS), ("path", "by path / LMDB", 0.9, UNKNOWN)]
+    lmdb = dict(side="lmdb", **common)
+    return [
+        *(Goal(f"{name}, get, 10^7 blocks", most, _ratio(dict(side=side, **common), lmdb), reason)
+          for side, name, most, reason in gets),
+        Goal("by path, to the first document, 10^7 blocks", 50_000,
+             lambda figures: figures.spread(group="growth", workload="open", side="path", documents=10**7), UNKNOWN,
+             number_text, " ns"),
+    ]
 
 
 def _beside_best(place: str, batch: int) -> Callable[[Figures], Optional[Spread]]:
@@ -118,8 +139,9 @@ GOALS = [
     *_reads("unopened", "cdb", "`zevk_get` / tinycdb, get", 1.0, GETS, WALK),
     *_reads("unopened", "lmdb", "`zevk_get_run` / LMDB", 0.6, ITERATE, BYTES),
     *_reads("unopened", "cdb", "`zevk_get_run` / tinycdb", 0.9, ITERATE, BYTES),
-    _opening(),
-    _large(),
+    *_opening(),
+    *_cold(),
+    *_large(),
     *_log(),
     _python("Python, a uniform get, beyond the call in C", 100,
             lambda figures: figures.differences(_of_python("uniform"), IN_C)),

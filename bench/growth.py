@@ -10,7 +10,7 @@ LEFT, RIGHT = 58, WIDTH - 22
 PANEL, TITLE, GAP = 140, 30, 24
 
 #: in the order of their markers
-SIDES = ["zevk", "unopened", "plain", "lmdb", "cdb"]
+SIDES = ["zevk", "unopened", "path", "plain", "lmdb", "cdb"]
 
 #: less memory than a page is reported as a page
 PAGE = 4096

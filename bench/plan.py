@@ -352,7 +352,7 @@ def growth_rows(sizes: Sizes) -> List[Row]:
     rows = []
     for blocks in sizes.blocks:
         opens = max(1, min(100, 1_000_000 // blocks))
-        for side, place in [("zevk", DISK), ("unopened", DISK), ("reader", PROCESS),
+        for side, place in [("zevk", DISK), ("unopened", DISK), ("path", DISK), ("reader", PROCESS),
                             ("plain", DISK), ("lmdb", DISK), ("cdb", DISK)]:
             rows.append(Row("growth", "uniform", place, side, blocks, 8, BLOCK_EACH, sizes.questions))
             rows.append(Row("growth", "open", place, side, blocks, 8, BLOCK_EACH, opens))

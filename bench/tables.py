@@ -215,7 +215,7 @@ def ranges(figures: Figures) -> Lines:
 
 
 def growing(figures: Figures) -> Lines:
-    sides = ["unopened", "zevk", "reader", "plain", "lmdb", "cdb"]
+    sides = figures.sides(["unopened", "path", "zevk", "reader", "plain", "lmdb", "cdb"], group="growth")
     lines: Lines = []
     for workload, name in (("uniform", "a get"), ("open", "an open and a get")):
         lines += head(f"blocks: {name}", sides, {"zevk": "`zevk_locate`" if workload == "uniform" else "`zevk_open`"})
