@@ -14,7 +14,7 @@ use store_files::{DiskFolder, HostFiles};
 const PATH: &str = "bench.log";
 
 // The length past which a tail is sealed, as the program has it.
-const SEAL_SIZE: usize = 64 << 20;
+const SEAL_SIZE: usize = 8 << 20;
 
 // How many records of a log that is only read were on the disk at once.
 const MADE_BATCH: u64 = 10_000;
