@@ -19,6 +19,7 @@ OBJECT = "each document becomes an object in new memory"
 CHECKS = "it looks at more than the floor does before the get"
 UNKNOWN = "the cause was not looked for yet"
 SUM = "each batch has a sum, which LMDB has not"
+SEALS = "each 8 MiB of the tail become a segment on the way, with syncs of their own"
 
 Row = Dict[str, object]
 
@@ -115,7 +116,7 @@ def _log() -> List[Goal]:
     places = {MEMORY: "in memory", DISK: "on a disk"}
     return [
         Goal(f"a log / the best other, {batch} a sync, {places[place]}", 1.1 if (place, batch) == (DISK, 1) else 1.0,
-             _beside_best(place, batch), SUM if place == MEMORY else UNKNOWN)
+             _beside_best(place, batch), SUM if place == MEMORY else SEALS)
         for place, batches in FULL.logged.items()
         for batch in batches
     ]
