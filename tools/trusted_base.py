@@ -22,8 +22,13 @@ TOP = Path(__file__).resolve().parent.parent
 REACHED = re.compile(r"^ +(\S+) +reached$", re.M)
 VERDICT = re.compile(r"^logic=proved( .*)$", re.M)
 # A type of which the clauses about contents say nothing: no clause of the system's calls says what they do.
-NOT_HONEST = re.compile(r"ghost honest = \{ (?:λ _\. )?false \}")
+NOT_HONEST = re.compile(r"ghost (?:honest = \{ (?:λ _\. )?false|holds = \{ λ _\. None) \}")
 IMPL = re.compile(r"^impl(?:<[^\n]*>)? (\w+) for (\w+).*?^\}", re.M | re.S)
+# The traits of which each method names the call of the system that it makes.
+OF_SYSTEM = {
+    "SystemFiles": "crates/store_files/src/system_files.rt",
+    "InputFiles": "crates/document_framing/src/input_files.rt",
+}
 # Traits whose clauses have the premise that another trait of the type states.
 RESTS_ON_OTHERS = ("ReadableFolder",)
 
@@ -51,6 +56,11 @@ THEOREMS = (
     Theorem("a record that a sync acknowledged is never lost", "segmented_log",
             ("open", "sync", "seal", "compact", "repair", "call_all", "open_and_call", "ends_lose_nothing"),
             ("memory aside", "usize", "honest folder")),
+    Theorem("a number is printed once its record is on the disk", "framed_logs",
+            ("append_inputs", "print_records"), ("memory aside", "usize", "honest folder", "known inputs")),
+    Theorem("what cat prints of what pack packed is what was put in", "program_stores",
+            ("pack_and_cat", "pack", "append", "merge", "print"),
+            ("memory aside", "usize", "honest system", "known inputs")),
     Theorem("a call from C gives the document of the bytes", "store_c",
             ("zevk_get", "zevk_locate", "zevk_writer_close"), ("memory aside", "usize", "rules of zevkhadun.h")),
 )
@@ -68,20 +78,21 @@ class Body:
     call: str
 
 
-def calls() -> dict[str, str]:
-    """The call of the system that the comment of each method of `SystemFiles` names."""
-    text = (TOP / "crates/store_files/src/system_files.rt").read_text()
+def calls() -> dict[tuple[str, str], str]:
+    """The call of the system that the comment of each method of these traits names, by the trait and the method."""
     found = {}
-    for comment, name in re.findall(r"((?:^    ///[^\n]*\n)+)    fn (\w+)", text, re.M):
-        named = re.sub(r"\n? *///", "", comment).partition(": ")[2]
-        found[name] = ", ".join(dict.fromkeys(re.findall(r"`([a-z]+)`", named)))
+    for trait, path in OF_SYSTEM.items():
+        for comment, name in re.findall(r"((?:^    ///[^\n]*\n)+)    fn (\w+)", (TOP / path).read_text(), re.M):
+            named = re.sub(r"\n? *///", "", comment).partition(": ")[2]
+            found[trait, name] = ", ".join(dict.fromkeys(re.findall(r"`([a-z]+)`", named)))
     return found
 
 
 def bodies() -> list[Body]:
     """The methods of the library's types that are not honest by definition, of which the premises have to hold."""
     found = []
-    texts = {path: path.read_text() for path in sorted((TOP / "crates").glob("store_*/src/**/*.rt"))}
+    paths = [path for crate in ("store_*", "document_framing") for path in TOP.glob(f"crates/{crate}/src/**/*.rt")]
+    texts = {path: path.read_text() for path in sorted(paths)}
     impls = [(path, impl) for path, text in texts.items() for impl in IMPL.finditer(text)]
     types = {impl[2] for _, impl in impls if NOT_HONEST.search(impl[0])}
     of_system = calls()
@@ -91,7 +102,7 @@ def bodies() -> list[Body]:
             for method in re.finditer(r"^    fn (\w+)", impl[0], re.M):
                 line = text[:impl.start() + method.start()].count("\n") + 1
                 place = f"{path.relative_to(TOP)}:{line}"
-                call = of_system[method[1]] if impl[1] == "SystemFiles" else ""
+                call = of_system[impl[1], method[1]] if impl[1] in OF_SYSTEM else ""
                 found.append(Body(place, f"{impl[2]}::{method[1]}, of {impl[1]}", call))
     return found
 

@@ -32,6 +32,7 @@ _zevkhadun() {
                 'log append --seal-size' | \
                 'log get --framing' | \
                 'log cat --from' | \
+                'log cat --last' | \
                 'log cat --framing' | \
                 'log compact --size' | \
                 'log drop --before')
@@ -68,6 +69,7 @@ _zevkhadun() {
         'log append --seal-size') : ;;
         'log get --framing') words='lines text nul lengths files' ;;
         'log cat --from') : ;;
+        'log cat --last') : ;;
         'log cat --framing') words='lines text nul lengths files' ;;
         'log compact --size') : ;;
         'log drop --before') : ;;
@@ -88,11 +90,11 @@ _zevkhadun() {
                 'log verify '*) files=yes ;;
                 'log stat '*' -'*) words='--json -h --help' ;;
                 'log stat '*) files=yes ;;
-                'log cat '*' -'*) words='--from --number --json --framing -h --help' ;;
+                'log cat '*' -'*) words='--from --last -f --follow --number --json --framing -h --help' ;;
                 'log cat 0 '*) files=yes ;;
                 'log get '*' -'*) words='--number --json --framing -h --help' ;;
                 'log get 0 '*) files=yes ;;
-                'log append '*' -'*) words='--files-from --sync --expect --number --framing --seal-size --two-syncs -q --quiet -h --help' ;;
+                'log append '*' -'*) words='--files-from -0 --null --sync --expect --number --framing --seal-size --two-syncs -q --quiet -h --help' ;;
                 'log append 0 '*) files=yes ;;
                 'log append '*) files=yes ;;
                 'log '*' -'*) words='-h --help' ;;
@@ -114,10 +116,10 @@ _zevkhadun() {
                 'cat 0 '*) files=yes ;;
                 'get '*' -'*) words='--number --json --framing --tantivy -h --help' ;;
                 'get 0 '*) files=yes ;;
-                'append '*' -'*) words='--files-from --expect --framing --block-size -q --quiet -h --help' ;;
+                'append '*' -'*) words='--files-from -0 --null --expect --framing --block-size -q --quiet -h --help' ;;
                 'append 0 '*) files=yes ;;
                 'append '*) files=yes ;;
-                'pack '*' -'*) words='--files-from --replace --expect --framing --block-size --period -q --quiet -h --help' ;;
+                'pack '*' -'*) words='--files-from -0 --null --replace --expect --framing --block-size --period -q --quiet -h --help' ;;
                 'pack 0 '*) files=yes ;;
                 'pack '*) files=yes ;;
             esac

@@ -15,6 +15,7 @@ complete -c zevkhadun -n __fish_use_subcommand -a log -d 'Keep a log: records th
 complete -c zevkhadun -n __fish_use_subcommand -a help -d 'Print help'
 complete -c zevkhadun -n '__fish_seen_subcommand_from help' -a 'pack append get cat stat verify merge export inspect log help'
 complete -c zevkhadun -n '__fish_seen_subcommand_from pack' -l files-from -r -F -d 'Take further input files from the lines of LIST, after the others; \'-\' is standard input'
+complete -c zevkhadun -n '__fish_seen_subcommand_from pack' -s 0 -l null -d 'The names in LIST end with a byte 0 instead of a line end, as \'find -print0\' writes them'
 complete -c zevkhadun -n '__fish_seen_subcommand_from pack' -l replace -d 'Replace OUT if it exists, whatever it holds'
 complete -c zevkhadun -n '__fish_seen_subcommand_from pack' -l expect -x -d 'Write nothing unless exactly COUNT documents come; else an input that ends early is not noticed'
 complete -c zevkhadun -n '__fish_seen_subcommand_from pack' -l framing -x -a 'lines text nul lengths files' -d 'How documents are delimited'
@@ -24,6 +25,7 @@ complete -c zevkhadun -n '__fish_seen_subcommand_from pack' -s q -l quiet -d 'Sh
 complete -c zevkhadun -n '__fish_seen_subcommand_from pack' -s h -l help -d 'Print help (see a summary with \'-h\')'
 complete -c zevkhadun -n '__fish_seen_subcommand_from pack' -F
 complete -c zevkhadun -n '__fish_seen_subcommand_from append; and not __fish_seen_subcommand_from log' -l files-from -r -F -d 'Take further input files from the lines of LIST, after the others; \'-\' is standard input'
+complete -c zevkhadun -n '__fish_seen_subcommand_from append; and not __fish_seen_subcommand_from log' -s 0 -l null -d 'The names in LIST end with a byte 0 instead of a line end, as \'find -print0\' writes them'
 complete -c zevkhadun -n '__fish_seen_subcommand_from append; and not __fish_seen_subcommand_from log' -l expect -x -d 'Write nothing unless exactly COUNT documents come; else an input that ends early is not noticed'
 complete -c zevkhadun -n '__fish_seen_subcommand_from append; and not __fish_seen_subcommand_from log' -l framing -x -a 'lines text nul lengths files' -d 'How documents are delimited'
 complete -c zevkhadun -n '__fish_seen_subcommand_from append; and not __fish_seen_subcommand_from log' -l block-size -x -d 'Write a block once its documents plus 8 bytes each exceed BYTES; suffixes K, M, G (powers of 1024)'
@@ -84,6 +86,7 @@ complete -c zevkhadun -n '__fish_seen_subcommand_from log; and not __fish_seen_s
 complete -c zevkhadun -n '__fish_seen_subcommand_from log; and not __fish_seen_subcommand_from append get cat stat verify repair seal compact drop help' -a help -d 'Print help'
 complete -c zevkhadun -n '__fish_seen_subcommand_from log' -s h -l help -d 'Print help'
 complete -c zevkhadun -n '__fish_seen_subcommand_from log; and __fish_seen_subcommand_from append' -l files-from -r -F -d 'Take further input files from the lines of LIST, after the others; \'-\' is standard input'
+complete -c zevkhadun -n '__fish_seen_subcommand_from log; and __fish_seen_subcommand_from append' -s 0 -l null -d 'The names in LIST end with a byte 0 instead of a line end, as \'find -print0\' writes them'
 complete -c zevkhadun -n '__fish_seen_subcommand_from log; and __fish_seen_subcommand_from append' -l sync -x -a 'every batch end' -d 'When records are put on the disk'
 complete -c zevkhadun -n '__fish_seen_subcommand_from log; and __fish_seen_subcommand_from append' -l expect -x -d 'Append no record unless exactly COUNT of them come; all are put on the disk at the end, as by \'--sync end\''
 complete -c zevkhadun -n '__fish_seen_subcommand_from log; and __fish_seen_subcommand_from append' -l number -d 'Print the number of each record, one per line, once it is on the disk'
@@ -99,6 +102,8 @@ complete -c zevkhadun -n '__fish_seen_subcommand_from log; and __fish_seen_subco
 complete -c zevkhadun -n '__fish_seen_subcommand_from log; and __fish_seen_subcommand_from get' -s h -l help -d 'Print help (see a summary with \'-h\')'
 complete -c zevkhadun -n '__fish_seen_subcommand_from log; and __fish_seen_subcommand_from get' -F
 complete -c zevkhadun -n '__fish_seen_subcommand_from log; and __fish_seen_subcommand_from cat' -l from -x -d 'Begin at the record of this number, or at the first one if that is later'
+complete -c zevkhadun -n '__fish_seen_subcommand_from log; and __fish_seen_subcommand_from cat' -l last -x -d 'Of these records print the last COUNT ones only'
+complete -c zevkhadun -n '__fish_seen_subcommand_from log; and __fish_seen_subcommand_from cat' -s f -l follow -d 'Go on with the records that are appended from then on'
 complete -c zevkhadun -n '__fish_seen_subcommand_from log; and __fish_seen_subcommand_from cat' -l number -d 'Print the number of each document and a tab before it'
 complete -c zevkhadun -n '__fish_seen_subcommand_from log; and __fish_seen_subcommand_from cat' -l json -d 'Print a JSON object for each document, one per line: its id and its text, or base64 if it isn\'t UTF-8'
 complete -c zevkhadun -n '__fish_seen_subcommand_from log; and __fish_seen_subcommand_from cat' -l framing -x -a 'lines text nul lengths files' -d 'How documents are delimited'

@@ -126,11 +126,12 @@ class TrustedBase(Rules):
         self.assert_looked_at(len(bodies), 8, "bodies")
 
     def test_main_alone_names_the_files_of_the_system(self):
-        """All that the program writes is written by functions over any system, and so is what it reads of logs."""
+        """All that the program does is done by functions over any system, and over any inputs."""
         crates = ("program_base", "program_stores", "program_logs", "zevkhadun")
         paths = [path for crate in crates for path in TOP.glob(f"crates/{crate}/src/*.rt")]
-        named = [path.relative_to(TOP / "crates").as_posix() for path in paths if "HostFiles" in text_of(path)]
-        self.assertEqual(named, ["zevkhadun/src/main.rt"])
+        for name in ("HostFiles", "HostInputs"):
+            named = [path.relative_to(TOP / "crates").as_posix() for path in paths if name in text_of(path)]
+            self.assertEqual(named, ["zevkhadun/src/main.rt"], name)
 
     def test_no_crate_declares_a_function_of_c(self):
         """A crate that did would rest on its contract, and no axiom of ours is to be there."""

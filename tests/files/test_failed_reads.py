@@ -53,7 +53,7 @@ class FailedReads(OldStoreCase):
     def test_an_input_that_is_copied_is_named_with_the_reason(self):
         self.pack("a.store", self.WIDE)
         (self.folder / "more").write_bytes(b"one more\n")
-        for words, reads in ((["merge", "out", "a.store"], 7), (["append", "a.store", "more"], 5)):
+        for words, reads in ((["merge", "out", "a.store"], 7), (["append", "a.store", "more"], 3)):
             for when in range(1, reads + 1):
                 self.assert_reported("a.store", "a.store", when, *words)
 

@@ -70,6 +70,15 @@ class FilesFrom(ProgramCase):
         self.program.gives("pack", "a.store", "--files-from", "-", input=b"one.txt\none.txt\n")
         self.assert_documents("a.store", LINES * 2)
 
+    def test_names_may_end_with_bytes_0(self):
+        self.write("two\nlines.txt", b"three\n")
+        self.write("list", b"two\nlines.txt\0\0one.txt")
+        for command in (["pack", "a.store"], ["append", "a.store"]):
+            self.program.gives(*command, "--files-from", "list", "-0")
+        self.assert_documents("a.store", (b"three\n" + LINES) * 2)
+        self.program.gives("log", "append", "events", "--files-from", "list", "--null")
+        self.assertEqual(self.program.gives("log", "cat", "events"), b"three\n" + LINES)
+
     def test_an_empty_list_makes_an_empty_store(self):
         self.write("list", b"")
         self.program.gives("pack", "a.store", "--files-from", "list", input=LINES)

@@ -199,7 +199,7 @@ class Reading(LogCase):
     def test_get_prints_records_by_number_and_by_range(self):
         self.assertEqual(self.get("12", "3..5", "19..", "..1"), b"12\n3\n4\n19\n0\n")
         self.assertEqual(self.get("-", input=b"9..11\n\n 0\n"), b"9\n10\n0\n")
-        self.assertEqual(self.get("20..", "7..3"), b"")
+        self.assertEqual(self.get("20..", "7..7"), b"")
 
     def test_get_and_cat_print_numbers_and_json(self):
         self.assertEqual(self.get("--number", "11"), b"11\t11\n")
@@ -211,6 +211,9 @@ class Reading(LogCase):
     def test_cat_begins_where_it_is_asked_to(self):
         for start in (0, 1, 9, 10, 19, 20, 100):
             self.assertEqual(self.records("--from", str(start)), numbers(19, start))
+            self.assertEqual(self.records("--last", str(20 - min(start, 20))), numbers(19, start))
+        self.assertEqual(self.records("--last", "18446744073709551615", "--from", "3"), numbers(19, 3))
+        self.assertEqual(self.records("--last", "5", "--from", "17"), numbers(19, 17))
 
     def test_a_number_that_the_log_has_not_is_an_error(self):
         said = "events: no record 20; the log has the records 0 to 19\n"
@@ -218,7 +221,7 @@ class Reading(LogCase):
             self.program.fails(1, said, "log", "get", "events", words)
         self.program.gives("log", "append", "none", input=b"")
         self.program.fails(1, "none: no record 0; the log has none", "log", "get", "none", "0")
-        for word in ("x", "1..x", "-1..", "99999999999999999999", "18446744073709551615"):
+        for word in ("x", "1..x", "-1..", "7..3", "99999999999999999999", "18446744073709551615"):
             done = self.program.run("log", "get", "events", "0", "--", word)
             self.assertEqual((done.returncode, done.stdout), (2, b""), word)
 
@@ -241,6 +244,46 @@ class Reading(LogCase):
         self.get("0")
         self.assertEqual(self.files(), before)
         self.assertNotIn("lock", os.listdir(self.folder / "events"))
+
+
+class Followed(LogCase):
+    """A reader that goes on with the records that come."""
+
+    def setUp(self):
+        super().setUp()
+        self.append(numbers(9, 0))
+        pipes = {"stdout": subprocess.PIPE, "stderr": subprocess.PIPE, "bufsize": 0}
+        command = [self.program.path, "log", "cat", "events", "--last", "1", "-f"]
+        self.reading = subprocess.Popen(command, cwd=self.folder, **pipes)
+        self.addCleanup(self.end_reader)
+        self.assertEqual(self.reading.stdout.readline(), b"9\n")
+
+    def end_reader(self):
+        self.reading.kill()
+        self.reading.wait()
+        self.reading.stdout.close()
+        self.reading.stderr.close()
+
+    def test_records_are_printed_as_they_come_whatever_is_done_with_the_tail(self):
+        for text, words in ((b"a\nb\n", ()), (b"c\n", ("--two-syncs",)), (b"d\n", ("--seal-size", "1")), (b"e\n", ())):
+            self.append(text, *words)
+            self.assertEqual(b"".join(self.reading.stdout.readline() for _ in text.splitlines()), text)
+        self.program.gives("log", "seal", "events")
+        self.program.gives("log", "compact", "events")
+        self.append(b"f\n")
+        self.assertEqual(self.reading.stdout.readline(), b"f\n")
+
+    def test_it_ends_at_the_first_record_after_its_reader_is_gone(self):
+        self.reading.stdout.close()
+        self.append(b"a\n")
+        self.assertEqual(self.reading.wait(timeout=20), 0)
+        self.assertEqual(self.reading.stderr.read(), b"")
+
+    def test_a_damaged_tail_ends_it(self):
+        tail = self.files()["tail.log"]
+        self.change("tail.log", tail[:-1])
+        self.assertEqual(self.reading.wait(timeout=20), 1)
+        self.assertRegex(self.reading.stderr.read().decode(), "^zevkhadun: events: ")
 
 
 class Refused(LogCase):

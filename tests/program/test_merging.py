@@ -38,10 +38,10 @@ class Merge(ProgramCase):
         self.assert_documents("all.store", LINES * 2)
 
     def test_more_stores_are_merged_than_files_may_be_open(self):
-        names = [f"{number}.store" for number in range(100, 141)]
+        names = [f"{number}.store" for number in range(100, 201)]
         for name in names:
             self.pack(name, name.encode() + b"\n")
-        limit = limited(resource.RLIMIT_NOFILE, 20)
+        limit = limited(resource.RLIMIT_NOFILE, 80)
         self.program.gives("merge", "all.store", *names, preexec_fn=limit)
         self.assert_documents("all.store", "".join(f"{name}\n" for name in names).encode())
 

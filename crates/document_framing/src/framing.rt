@@ -1,10 +1,13 @@
 //! How documents are delimited in an input or an output.
 
-use crate::fault::FramingFault;
-use crate::lengths::{length_of, read_measured};
-use crate::pieces::{read_piece, read_through, write_piece};
+ghost use Rattle.std.specs.Prelude.{◌≡◌, ◌++◌, OnOk};
+ghost use Rattle.std.specs.Io.BufRead.{strip_last};
+ghost use Rattle.std.specs.Io.KnownBytes.{Appends};
+ghost use Rattle.document_framing.specs.Framings.{document_in, end_of, frame};
+
+use crate::lengths::length_of;
 use std::io;
-use std::io::{BufRead, Write};
+use std::io::Write;
 
 /// How documents are delimited.
 #[derive(Clone, Copy, PartialEq, Eq)]
@@ -57,7 +60,9 @@ impl Framing {
     }
 
     /// The byte that ends each document, where one does.
-    pub fn end(self) -> Option<u8> {
+    pub fn end(self) -> Option<u8>
+        ensures { result ≡ end_of self }
+    {
         match self {
             Framing::Lines | Framing::Text => Some(b'\n'),
             Framing::Nul => Some(0),
@@ -65,46 +70,55 @@ impl Framing {
         }
     }
 
-    /// The document in a piece of the input that the end closes.
+    /// The document in a piece of an input.
     #[inline(always)]
-    pub fn document_in(self, piece: &[u8]) -> &[u8] {
-        if self == Framing::Text {
-            return piece;
-        }
-        piece.split_last().map_or(piece, |(_, document)| document)
-    }
-
-    /// Reads the next document into `document`, in place of what it has, and returns true; at the end of the input it
-    /// returns false. A file is one document.
-    pub fn read<R: BufRead>(
-        self,
-        input: &mut R,
-        document: &mut Vec<u8>,
-    ) -> Result<bool, FramingFault> {
-        document.clear();
+    pub fn document_in(self, piece: &[u8]) -> &[u8]
+        ensures { result.now ≡ document_in self piece.now }
+    {
         match self {
-            Framing::Lines => Ok(read_piece(input, b'\n', document)?),
-            Framing::Text => Ok(read_through(input, b'\n', document)?),
-            Framing::Nul => Ok(read_piece(input, 0, document)?),
-            Framing::Lengths => read_measured(input, document),
-            Framing::Files => {
-                input.read_to_end(document)?;
-                Ok(true)
-            }
+            Framing::Lines => without_last(piece, b'\n'),
+            Framing::Nul => without_last(piece, 0),
+            Framing::Text | Framing::Lengths | Framing::Files => piece,
         }
     }
 
     /// Writes a document after others.
+    ///
+    /// # Errors
+    ///
+    /// Those of the output; and `InvalidData` if the length of the document, which comes first, needs more than four
+    /// bytes.
     #[inline(always)]
-    pub fn write<W: Write>(self, output: &mut W, document: &[u8]) -> io::Result<()> {
+    pub fn write<W: Write>(self, output: &mut W, document: &[u8]) -> io::Result<()>
+        ensures { OnOk result (Appends (W.contents output.old) (W.contents output.new) (frame self document.now)) }
+    {
         match self {
-            Framing::Lines => write_piece(output, document, b"\n"),
-            Framing::Nul => write_piece(output, document, b"\0"),
+            Framing::Lines => write_parts(output, document, b"\n"),
+            Framing::Nul => write_parts(output, document, b"\0"),
             Framing::Lengths => {
-                output.write_all(&length_of(document)?.to_le_bytes())?;
-                output.write_all(document)
+                write_parts(output, &length_of(document)?.to_le_bytes(), document)
             }
             Framing::Text | Framing::Files => output.write_all(document),
         }
     }
+}
+
+// The bytes without the last, if that is this one.
+#[inline(always)]
+fn without_last(bytes: &[u8], end: u8) -> &[u8]
+    ensures { result.now ≡ strip_last end bytes.now }
+{
+    match bytes.split_last() {
+        Some((last, front)) if *last == end => front,
+        _ => bytes,
+    }
+}
+
+// Writes two parts, one after the other.
+#[inline(always)]
+fn write_parts<W: Write>(output: &mut W, first: &[u8], second: &[u8]) -> io::Result<()>
+    ensures { OnOk result (Appends (W.contents output.old) (W.contents output.new) (first.now ++ second.now)) }
+{
+    output.write_all(first)?;
+    output.write_all(second)
 }

@@ -2,10 +2,18 @@
 #![tactic(auto)]
 
 mod fault;
+pub mod feeding;
+pub mod form;
 pub mod framing;
+pub mod input_files;
+pub mod inputs;
+pub mod laws;
 mod lengths;
 mod pieces;
 
 pub use fault::FramingFault;
+pub use feeding::{DocumentSink, FeedError, FeedProgress, feed};
+pub use form::{DocumentForm, ShowError};
 pub use framing::Framing;
-pub use pieces::split_after;
+pub use input_files::{HostInputs, InputFiles};
+pub use inputs::{InputFault, feed_inputs};

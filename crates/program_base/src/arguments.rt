@@ -57,6 +57,16 @@ pub fn quiet<'a>() -> Argument<'a> {
     }
 }
 
+/// How many documents or records have to come. A program that ends early gives its reader an ordinary end of input, so
+/// without a count what it did not write is not missed. The help says what is not done then.
+pub fn expect<'a>(help: &'a str) -> Argument<'a> {
+    Argument::Number {
+        id: "expect",
+        value: "COUNT",
+        help,
+    }
+}
+
 /// How documents are delimited.
 pub fn framing<'a>() -> Argument<'a> {
     Argument::ChoiceOr {

@@ -3,13 +3,13 @@
 use crate::failure::FailureCause;
 use crate::store_file::explained;
 use docstore::{NoMemory, StoreError};
-use document_framing::FramingFault;
+use document_framing::{FramingFault, ShowError};
 use std::alloc::{AllocError, AllocFailed};
 use std::io;
 use store_commands::RequestError;
 use store_commands::block_walk::GivingError;
 use store_commands::merging::MergeFailure;
-use store_files::{CreateError, DiskFile, OsFile};
+use store_files::{CreateError, DiskFile, ReadAt};
 
 impl From<io::Error> for FailureCause {
     fn from(error: io::Error) -> FailureCause {
@@ -22,6 +22,7 @@ impl From<FramingFault> for FailureCause {
         match fault {
             FramingFault::Io(error) => FailureCause::System(error),
             FramingFault::Cut => FailureCause::CutInput,
+            FramingFault::Endless => FailureCause::System(io::ErrorKind::InvalidData.into()),
         }
     }
 }
@@ -48,17 +49,26 @@ impl From<RequestError> for FailureCause {
     }
 }
 
-impl From<GivingError<FailureCause>> for FailureCause {
-    fn from(error: GivingError<FailureCause>) -> FailureCause {
+impl From<ShowError> for FailureCause {
+    fn from(error: ShowError) -> FailureCause {
         match error {
-            GivingError::Store(error) => FailureCause::Store(error),
-            GivingError::Target(cause) => cause,
+            ShowError::Memory => FailureCause::Store(StoreError::Memory),
+            ShowError::Output(error) => FailureCause::Output(error),
         }
     }
 }
 
-impl From<MergeFailure<DiskFile<OsFile>>> for FailureCause {
-    fn from(failure: MergeFailure<DiskFile<OsFile>>) -> FailureCause {
+impl From<GivingError<ShowError>> for FailureCause {
+    fn from(error: GivingError<ShowError>) -> FailureCause {
+        match error {
+            GivingError::Store(error) => FailureCause::Store(error),
+            GivingError::Target(error) => FailureCause::from(error),
+        }
+    }
+}
+
+impl<F: ReadAt> From<MergeFailure<DiskFile<F>>> for FailureCause {
+    fn from(failure: MergeFailure<DiskFile<F>>) -> FailureCause {
         match failure {
             MergeFailure::Request(error) => FailureCause::from(error),
             MergeFailure::Refused { error, reader } => {

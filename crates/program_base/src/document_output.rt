@@ -2,14 +2,12 @@
 
 use crate::arguments::{framing_of, wrong_words};
 use crate::command_words::Argument;
-use crate::failure::{Failure, FailureCause, to_output};
-use base64::engine::general_purpose::STANDARD;
+use crate::failure::Failure;
 use clap::ArgMatches;
-use document_framing::Framing;
-use serde_json::Value;
-use std::alloc::{AllocError, Global};
+use document_framing::{DocumentForm, Framing};
+use std::alloc::Global;
 use std::io;
-use std::io::{BufWriter, Printer, Write};
+use std::io::{BufWriter, Printer};
 
 // How many bytes are held before they go to the system.
 const BUFFER_SIZE: usize = 1 << 17;
@@ -21,17 +19,6 @@ pub type DocumentOutput<'a> = Box<BufWriter<Printer<'a, HostRuntime>>>;
 pub fn standard_output(rt: &HostRuntime) -> io::Result<DocumentOutput<'_>> {
     let output = BufWriter::with_capacity(rt.alloc(), BUFFER_SIZE, io::writer(rt))?;
     Ok(Box::new(rt.alloc(), output)?)
-}
-
-/// How documents are printed.
-#[derive(Clone, Copy)]
-pub enum DocumentForm {
-    /// In a framing.
-    Framed(Framing),
-    /// In a framing, after its number and a tab.
-    Numbered(Framing),
-    /// As an object of JSON on a line.
-    Json,
 }
 
 /// Whether a document follows its number.
@@ -64,46 +51,4 @@ pub fn form_of(alloc: Global, matches: &ArgMatches<'_>) -> Result<DocumentForm, 
         return Err(wrong_words(alloc, "'--number' has no place in this framing", "lengths"));
     }
     Ok(DocumentForm::Numbered(framing))
-}
-
-// An object of JSON that has a number and, under this key, a text.
-fn object_with(alloc: Global, number: u64, key: &str, text: &str) -> Result<String, AllocError> {
-    let text = Value::try_from_str(alloc, text)?;
-    format!(in alloc; "{{\"id\":{number},\"{key}\":{text}}}")
-}
-
-// A document as an object of JSON.
-fn object_of(alloc: Global, number: u64, document: &[u8]) -> Result<String, AllocError> {
-    match str::from_utf8(document) {
-        Ok(text) => object_with(alloc, number, "text", text),
-        Err(_) => {
-            let encoded = STANDARD.encode(alloc, document)?;
-            object_with(alloc, number, "base64", encoded.as_str())
-        }
-    }
-}
-
-impl DocumentForm {
-    /// Prints a document of this number.
-    #[inline(always)]
-    pub fn write<W: Write>(
-        self,
-        alloc: Global,
-        output: &mut W,
-        number: u64,
-        document: &[u8],
-    ) -> Result<(), FailureCause> {
-        let framing = match self {
-            DocumentForm::Framed(framing) => framing,
-            DocumentForm::Numbered(framing) => {
-                to_output(write!(output, "{number}\t"))?;
-                framing
-            }
-            DocumentForm::Json => {
-                let object = object_of(alloc, number, document)?;
-                return to_output(writeln!(output, "{object}"));
-            }
-        };
-        to_output(framing.write(output, document))
-    }
 }

@@ -4,14 +4,17 @@ use crate::command_words::Argument;
 use crate::failure::Failure;
 use crate::word_files::{add_lines, text_in};
 use clap::ArgMatches;
-use document_framing::Framing;
+use document_framing::InputFault;
+use document_framing::input_files::STANDARD_INPUT;
 use std::alloc::{AllocError, Global};
-use std::fs::File;
-use std::io::{BufReader, Read};
-use std::{fs, io};
+use std::fs;
+use std::io::IsTerminal;
 
-// How many bytes of an input are read at once.
-const BUFFER_SIZE: usize = 1 << 16;
+// The word that stands for the standard input.
+const STANDARD_INPUT_WORDS: &[&str] = &[STANDARD_INPUT];
+
+// No words.
+const NO_WORDS: &[&str] = &[];
 
 /// The argument for files.
 pub fn inputs<'a>() -> Argument<'a> {
@@ -30,6 +33,15 @@ pub fn files_from<'a>() -> Argument<'a> {
     }
 }
 
+/// That the names of the list end with bytes 0.
+pub fn null<'a>() -> Argument<'a> {
+    Argument::ShortFlag {
+        id: "null",
+        short: '0',
+        help: "The names in LIST end with a byte 0 instead of a line end, as 'find -print0' writes them",
+    }
+}
+
 /// The text of the list of files, if the words name one.
 pub fn list_of(rt: &HostRuntime, matches: &ArgMatches<'_>) -> Result<Option<String>, Failure> {
     match matches.get_str("files-from") {
@@ -38,51 +50,75 @@ pub fn list_of(rt: &HostRuntime, matches: &ArgMatches<'_>) -> Result<Option<Stri
     }
 }
 
-/// The words that name files, if there are any. Where neither words nor a list name some, the standard input is meant.
+/// The words that name files, if there are any.
 pub fn words_of<'m, 'a>(matches: &'m ArgMatches<'a>) -> Option<&'m [&'a str]> {
     matches.get_strs("INPUT")
 }
 
-/// The names of the files: those of the words, and then those on the lines of a list, if there is one.
+/// The words that count where none name files: that for the standard input, unless a list of files names some.
+pub fn unnamed_words(has_list: bool) -> &'static [&'static str] {
+    if has_list {
+        NO_WORDS
+    } else {
+        STANDARD_INPUT_WORDS
+    }
+}
+
+// Adds the names that end with bytes 0 and are not empty.
+fn add_ended<'t>(names: &mut Vec<&'t str>, list: &'t str) -> Result<(), AllocError> {
+    for name in list.split('\0') {
+        if !name.is_empty() {
+            names.push(name)?;
+        }
+    }
+    Ok(())
+}
+
+/// The names of the files: those of the words, and then those of a list, if there is one.
 pub fn names_of<'t>(
     alloc: Global,
+    matches: &ArgMatches<'_>,
     words: &[&'t str],
     list: Option<&'t str>,
 ) -> Result<Vec<&'t str>, AllocError> {
     let mut names = Vec::from_slice(alloc, words)?;
-    add_lines(&mut names, list.unwrap_or(""))?;
+    let list = list.unwrap_or("");
+    match matches.get_flag("null") {
+        true => add_ended(&mut names, list)?,
+        false => add_lines(&mut names, list)?,
+    }
     Ok(names)
 }
 
-/// An input through a buffer, in a box.
-pub fn buffered<R: Read + Drop>(alloc: Global, input: R) -> io::Result<Box<BufReader<R>>> {
-    let input = BufReader::with_capacity(alloc, BUFFER_SIZE, input)?;
-    Ok(Box::new(alloc, input)?)
+/// The failure of an input, which is one of these paths.
+pub fn input_failure(alloc: Global, paths: &[&str], error: InputFault) -> Failure {
+    let InputFault { place, fault } = error;
+    let name = match paths.get(place) {
+        Some(path) if *path != STANDARD_INPUT => *path,
+        _ => "standard input",
+    };
+    Failure::at_file(alloc, name, fault.into())
 }
 
-/// The file of this name, through a buffer.
-pub fn open_input(rt: &HostRuntime, path: &str) -> io::Result<Box<BufReader<File>>> {
-    buffered(rt.alloc(), File::open(rt, path)?)
+/// Says that documents or records are read from the terminal, if the standard input is among these inputs and is one.
+pub fn note_terminal(rt: &HostRuntime, paths: &[&str], things: &str) {
+    if paths.contains(&STANDARD_INPUT) && rt.stdin().is_terminal() {
+        let _ = eprintln!(rt; "reading {things} from the terminal; end with Ctrl-D");
+    }
 }
 
 /// How many bytes these files have together, if all are plain files.
 pub fn total_bytes(rt: &HostRuntime, paths: &[&str]) -> Option<u64> {
     let mut total = 0u64;
     for path in paths {
+        if *path == STANDARD_INPUT {
+            return None;
+        }
         let found = fs::metadata(rt, *path).ok()?;
-        if *path == "-" || !found.is_file() {
+        if !found.is_file() {
             return None;
         }
         total = total.saturating_add(found.len());
     }
     Some(total)
-}
-
-/// How many bytes of an input delimit a document.
-pub fn framing_bytes(framing: Framing) -> u64 {
-    match framing {
-        Framing::Lines | Framing::Nul => 1,
-        Framing::Lengths => 4,
-        Framing::Text | Framing::Files => 0,
-    }
 }

@@ -1,7 +1,6 @@
 //! Numbers that are read from the standard input, a number or a range on each line.
 
 use crate::failure::FailureCause;
-use crate::input_files::buffered;
 use std::alloc::Global;
 use std::io;
 use std::io::{BufRead, BufReader, Read};
@@ -32,7 +31,7 @@ impl<R: Read + Drop> ListedNumbers<R> {
     pub fn new(alloc: Global, input: R) -> Result<ListedNumbers<R>, FailureCause> {
         Ok(ListedNumbers {
             alloc,
-            input: buffered(alloc, input)?,
+            input: Box::new(alloc, BufReader::new(alloc, input)?)?,
             line: String::new(alloc),
             number: 0,
         })

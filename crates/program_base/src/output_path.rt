@@ -6,10 +6,14 @@ use clap::ArgMatches;
 use std::alloc::Global;
 use std::fs;
 use std::os::unix::fs::MetadataExt;
-use store_files::{CreateError, DiskFolder, DiskSink, SystemFiles};
+use store_files::{CreateError, DiskFolder, SystemFiles};
+use store_folder::Publication;
 
 // The file that is open as the standard input.
 const STANDARD_INPUT: &str = "/dev/stdin";
+
+/// An output on disk, which takes its name only once it is whole.
+pub type FileOutput<S> = Publication<DiskFolder<S>>;
 
 /// The file that a command writes.
 #[derive(Clone, Copy)]
@@ -89,10 +93,11 @@ impl<'a> OutputPath<'a> {
         self,
         alloc: Global,
         system: S,
-    ) -> Result<DiskSink<S>, CreateError> {
-        if self.replaces {
-            return DiskSink::create(alloc, system, self.path);
+    ) -> Result<FileOutput<S>, CreateError> {
+        let (folder, name) = self.folder(alloc, system)?;
+        match Publication::create(alloc, folder, name.as_str()) {
+            Ok(output) => Ok(output),
+            Err((error, _)) => Err(CreateError::System(error)),
         }
-        DiskSink::create_new(alloc, system, self.path)
     }
 }

@@ -59,9 +59,9 @@ impl<'a> Progress<'a> {
         }
     }
 
-    /// The same, of records.
-    pub fn of_records(mut self) -> Progress<'a> {
-        self.things = "records";
+    /// The same, which counts things of this name.
+    pub fn counting(mut self, things: &'static str) -> Progress<'a> {
+        self.things = things;
         self
     }
 

@@ -7,6 +7,7 @@ use crate::verify_output::{Found, ReportForm};
 use store_commands::broken_part::{BrokenPart, broken_part};
 use store_commands::checking::check_blocks;
 use store_commands::damaged_documents::damaged_documents;
+use store_files::{ReadAt, SystemFiles};
 
 /// What a sound file may still hide.
 pub const BLIND_SPOT: &str =
@@ -22,7 +23,11 @@ pub struct Verifying {
 
 impl Verifying {
     // What is found in the blocks of an opened store. Only those of a broken one are read again, for a list.
-    fn look_over(&self, rt: &HostRuntime, reader: &mut DiskReader) -> Result<Found, FailureCause> {
+    fn look_over<F: ReadAt>(
+        &self,
+        rt: &HostRuntime,
+        reader: &mut DiskReader<F>,
+    ) -> Result<Found, FailureCause> {
         let mut progress = Progress::begin(rt, self.is_quiet, None);
         let verdict = check_blocks(rt.alloc(), &mut **reader, &mut progress);
         progress.end();
@@ -36,8 +41,13 @@ impl Verifying {
     }
 
     /// What is found in a store.
-    pub fn look_at(&self, rt: &HostRuntime, store: StorePath<'_>) -> Result<Found, FailureCause> {
-        match reader_of(rt, store.file(rt)?) {
+    pub fn look_at<S: SystemFiles>(
+        &self,
+        rt: &HostRuntime,
+        system: &S,
+        store: StorePath<'_>,
+    ) -> Result<Found, FailureCause> {
+        match reader_of(rt.alloc(), store.file(rt.alloc(), system)?) {
             Ok(mut reader) => {
                 let found = self.look_over(rt, &mut reader);
                 with_reason(&reader, found)

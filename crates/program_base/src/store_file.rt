@@ -1,40 +1,49 @@
 //! A store's file on disk, opened to be read.
 
+ghost use Rattle.std.specs.Prelude.{◌≡◌, ℕ, List, Ok, Some, IfOk, IsTrue};
+ghost use Rattle.store_format.specs.Footer.{version_number};
+ghost use Rattle.store_format.specs.StoreFile.{IsStore};
+ghost use Rattle.store_reader.specs.Reading.{store_of};
+ghost use Rattle.store_files.specs.Disk.{replay, seen};
+ghost use Rattle.store_files.specs.Paths.{IsPath};
+ghost use Rattle.program_base.specs.StoresOnDisk.{HasStore, IsReaderOf};
+
 use crate::arguments::input_path;
 use crate::failure::{Failure, FailureCause};
 use clap::ArgMatches;
 use docstore::{FileSlice, OpenError, StoreError, StoreReader};
-use std::alloc::AllocFailed;
-use std::fs;
+use std::alloc::{AllocFailed, Global};
+use std::io;
+use std::io::ErrorKind;
 use store_commands::store_part::store_end;
-use store_files::{CreateError, DiskFile, OsFile};
+use store_files::{CreateError, DiskFile, FileKind, FoundFile, ReadAt, SystemFiles};
 
 /// A store's file, or the part of a file that is one.
-pub type StoreFile = FileSlice<DiskFile<OsFile>>;
+pub type StoreFile<F> = FileSlice<DiskFile<F>>;
 
 /// A reader over a file on disk.
-pub type OpenReader = StoreReader<DiskFile<OsFile>>;
+pub type OpenReader<F> = StoreReader<DiskFile<F>>;
 
 /// A reader over a file on disk, in a box: a function that owns it moves and drops one value, and not all of its parts.
-pub type DiskReader = Box<OpenReader>;
+pub type DiskReader<F> = Box<OpenReader<F>>;
 
 /// Why there is no reader over an opened file.
 #[derive(Drop)]
-pub enum NotRead {
+pub enum NotRead<F: ReadAt> {
     /// The file is no store; it is returned with the error.
-    Store(OpenError<DiskFile<OsFile>>),
+    Store(OpenError<DiskFile<F>>),
     /// There was no memory for the reader.
     Memory,
 }
 
-impl<T: Drop> From<AllocFailed<T>> for NotRead {
-    fn from(_: AllocFailed<T>) -> NotRead {
+impl<F: ReadAt, T: Drop> From<AllocFailed<T>> for NotRead<F> {
+    fn from(_: AllocFailed<T>) -> NotRead<F> {
         NotRead::Memory
     }
 }
 
-impl From<NotRead> for FailureCause {
-    fn from(refusal: NotRead) -> FailureCause {
+impl<F: ReadAt> From<NotRead<F>> for FailureCause {
+    fn from(refusal: NotRead<F>) -> FailureCause {
         match refusal {
             NotRead::Store(refusal) => {
                 let cause = FailureCause::Store(refusal.error);
@@ -46,7 +55,7 @@ impl From<NotRead> for FailureCause {
 }
 
 /// Why a call on a store failed: what the system said, if a read of this file failed.
-pub fn explained(file: &DiskFile<OsFile>, cause: FailureCause) -> FailureCause {
+pub fn explained<F: ReadAt>(file: &DiskFile<F>, cause: FailureCause) -> FailureCause {
     match (cause, file.read_error()) {
         (FailureCause::Store(StoreError::Read), Some(error)) => FailureCause::System(error),
         (cause, _) => cause,
@@ -54,10 +63,12 @@ pub fn explained(file: &DiskFile<OsFile>, cause: FailureCause) -> FailureCause {
 }
 
 /// What a call on a reader gave, or why it failed.
-pub fn with_reason<T: Drop>(
-    reader: &OpenReader,
+pub fn with_reason<F: ReadAt, T: Drop>(
+    reader: &OpenReader<F>,
     given: Result<T, FailureCause>,
-) -> Result<T, FailureCause> {
+) -> Result<T, FailureCause>
+    ensures { IfOk result (λ value. given ≡ Ok value) }
+{
     given.map_err(|cause| explained(reader.file(), cause))
 }
 
@@ -72,19 +83,60 @@ pub struct StorePath<'a> {
     pub is_tantivy: bool,
 }
 
-/// The whole file of this name, if it is a plain file.
-pub fn whole_file(rt: &HostRuntime, path: &str) -> Result<StoreFile, FailureCause> {
-    if !fs::metadata(rt, path)?.is_file() {
-        return Err(FailureCause::Create(CreateError::NotPlainFile));
+// What is at a path, where links are followed. None where nothing is, or a link leads to what has no path.
+fn found_at<S: SystemFiles>(
+    alloc: Global,
+    system: &S,
+    path: &str,
+) -> io::Result<Option<FoundFile>> {
+    match system.find(path)? {
+        Some(found) if found.kind == FileKind::Link => match system.real_path(alloc, path) {
+            Ok(target) => system.find(target.as_str()),
+            Err(error) if error.kind() == ErrorKind::NotFound => Ok(None),
+            Err(error) => Err(error),
+        },
+        found => Ok(found),
     }
-    Ok(FileSlice::new(DiskFile::new(OsFile::open(rt, path)?)?))
+}
+
+// Fails if what is at a path is no plain file.
+fn check_plain<S: SystemFiles>(alloc: Global, system: &S, path: &str) -> Result<(), FailureCause> {
+    match found_at(alloc, system, path)? {
+        Some(found) if found.kind == FileKind::Plain => return Ok(()),
+        Some(_) => {}
+        // By its error the system says that nothing is there. A pipe of the shell has no path, and is opened.
+        None => drop(system.open_to_read(path)?),
+    }
+    Err(FailureCause::Create(CreateError::NotPlainFile))
+}
+
+/// The whole file of this path, if it is a plain file.
+pub fn whole_file<S: SystemFiles>(
+    alloc: Global,
+    system: &S,
+    path: &str,
+) -> Result<StoreFile<S::Reader>, FailureCause>
+    ensures honest { IsTrue S.honest → IfOk result (λ file. IsTrue file.honest) }
+    ensures content { IsTrue S.honest → (d n : List ℕ) → IsPath d n path.now → IfOk result
+        (λ file. seen (replay (S.changes system.now d) (S.start d)) n ≡ Some file.content) }
+{
+    check_plain(alloc, system, path)?;
+    Ok(FileSlice::new(DiskFile::new(system.open_to_read(path)?)?))
 }
 
 impl<'a> StorePath<'a> {
     /// The file that is the store.
-    pub fn file(&self, rt: &HostRuntime) -> Result<StoreFile, FailureCause> {
-        let mut file = whole_file(rt, self.path)?;
-        match store_end(rt.alloc(), &mut file) {
+    pub fn file<S: SystemFiles>(
+        &self,
+        alloc: Global,
+        system: &S,
+    ) -> Result<StoreFile<S::Reader>, FailureCause>
+        ensures honest { IsTrue S.honest → IfOk result (λ file. IsTrue file.honest) }
+        ensures content { IsTrue S.honest → (d n : List ℕ) → IsPath d n self.now.path.now → IfOk result (λ file.
+            HasStore self.now.is_tantivy (seen (replay (S.changes system.now d) (S.start d)) n) file.content) }
+    {
+        let mut file = whole_file(alloc, system, self.path)?;
+        match store_end(alloc, &mut file) {
             Ok(Some(end)) => Ok(file.narrow(0..end)),
             Ok(None) if self.is_tantivy => Err(FailureCause::NoTantivyTail),
             Ok(None) => Ok(file),
@@ -93,15 +145,27 @@ impl<'a> StorePath<'a> {
     }
 
     /// A reader of the store.
-    pub fn reader(&self, rt: &HostRuntime) -> Result<DiskReader, FailureCause> {
-        Ok(reader_of(rt, self.file(rt)?)?)
+    pub fn reader<S: SystemFiles>(
+        &self,
+        alloc: Global,
+        system: &S,
+    ) -> Result<DiskReader<S::Reader>, FailureCause>
+        ensures honest { IsTrue S.honest → IfOk result (λ reader. IsTrue reader.value.file.honest) }
+        ensures store { IsTrue S.honest → (d n : List ℕ) → IsPath d n self.now.path.now → IfOk result (λ reader.
+            IsReaderOf self.now.is_tantivy (seen (replay (S.changes system.now d) (S.start d)) n) reader.value) }
+    {
+        Ok(reader_of(alloc, self.file(alloc, system)?)?)
     }
 }
 
 /// A reader over an opened file, or the error with the file.
-pub fn reader_of(rt: &HostRuntime, file: StoreFile) -> Result<DiskReader, NotRead> {
-    match StoreReader::open(rt.alloc(), file, CACHED_BLOCKS) {
-        Ok(reader) => Ok(Box::new(rt.alloc(), reader)?),
+pub fn reader_of<F: ReadAt>(alloc: Global, file: StoreFile<F>) -> Result<DiskReader<F>, NotRead<F>>
+    ensures honest { IfOk result (λ reader. reader.value.file.honest ≡ file.honest) }
+    ensures store { IsTrue file.honest → IfOk result (λ reader. IsStore reader.value.period file.content
+        (version_number reader.value.version) (store_of reader.value)) }
+{
+    match StoreReader::open(alloc, file, CACHED_BLOCKS) {
+        Ok(reader) => Ok(Box::new(alloc, reader)?),
         Err(refusal) => Err(NotRead::Store(refusal)),
     }
 }

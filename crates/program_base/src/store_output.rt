@@ -1,5 +1,10 @@
 //! A store that is written to disk.
 
+ghost use Rattle.std.specs.Prelude.{◌≡◌, ℕ, List, IsTrue, IfOk, OnOk, IsOk, string_bytes};
+ghost use Rattle.store_files.specs.Disk.{replay};
+ghost use Rattle.store_published.specs.Filling.{IsStoreOf};
+ghost use Rattle.program_base.specs.StoresOnDisk.{IsPublished};
+
 use crate::failure::{Failure, FailureCause, with_file};
 use crate::output_path::OutputPath;
 use crate::progress::Progress;
@@ -25,7 +30,11 @@ impl<S: SystemFiles> OutputPlace<S> {
         alloc: Global,
         shape: StoreShape,
         filling: &mut T,
-    ) -> Outcome<T::Error> {
+    ) -> Outcome<T::Error>
+        ensures published { IsTrue S.honest → OnOk result (IsPublished (string_bytes self.new.name)
+            (replay (S.changes self.new.folder.system self.new.folder.path) (S.start self.new.folder.path))
+            (IsStoreOf (T.brings filling.old filling.new) (T.cuts filling.old shape.block_size) shape.period)) }
+    {
         publish_store(
             alloc,
             &mut self.folder,
@@ -95,7 +104,9 @@ pub fn end_output<E: Into<Failure> + Drop>(
     path: &str,
     outcome: Outcome<E>,
     progress: &Progress<'_>,
-) -> Result<(), Failure> {
+) -> Result<(), Failure>
+    ensures { OnOk result (IsOk outcome) }
+{
     progress.end();
     match outcome {
         Ok(written) => summarize(rt, path, written, progress),

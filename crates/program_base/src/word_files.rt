@@ -1,5 +1,8 @@
 //! Words that are in files, one on each line.
 
+ghost use Rattle.std.specs.Prelude.{◌≡◌, ◌++◌, map, OnOk};
+ghost use Rattle.program_base.specs.WordLists.{full_lines, words_of};
+
 use crate::failure::{Failure, with_file};
 use crate::number_words::check_id_word;
 use std::alloc::{AllocError, Global};
@@ -40,7 +43,10 @@ impl IdWord {
     }
 
     /// Adds the words that it has: itself, or the lines of the file that are not empty.
-    pub fn add_to<'a>(&'a self, words: &mut Vec<&'a str>) -> Result<(), AllocError> {
+    pub fn add_to<'a>(&'a self, words: &mut Vec<&'a str>) -> Result<(), AllocError>
+        ensures { OnOk result (map (λ word. word.now) words.new.items
+            ≡ map (λ word. word.now) words.old.items ++ words_of self.now) }
+    {
         if self.is_list {
             return add_lines(words, self.text.as_str());
         }
@@ -59,7 +65,10 @@ pub fn id_words(rt: &HostRuntime, words: &[&str]) -> Result<Vec<IdWord>, Failure
 }
 
 /// Adds the lines of a text that are not empty.
-pub fn add_lines<'a>(lines: &mut Vec<&'a str>, text: &'a str) -> Result<(), AllocError> {
+pub fn add_lines<'a>(lines: &mut Vec<&'a str>, text: &'a str) -> Result<(), AllocError>
+    ensures { OnOk result (map (λ line. line.now) lines.new.items
+        ≡ map (λ line. line.now) lines.old.items ++ full_lines text.now) }
+{
     for line in text.lines() {
         if !line.is_empty() {
             lines.push(line)?;

@@ -3,24 +3,27 @@
 ghost use Rattle.std.specs.Prelude.{◌≡◌, ℕ, List, [], IsTrue};
 
 use crate::FOLDER;
+use crate::log_refusal::refused;
 use crate::opened_log::{OpenedLog, TailOptions};
 use crate::places::{open_or_begin, tail_bytes};
 use crate::record_span::RecordSpan;
-use crate::records::Appending;
-use crate::sync_policy::{SyncPolicy, policy_of, sync};
+use crate::sync_policy::{policy_of, sync};
 use clap::{ArgMatches, Command};
-use document_framing::Framing;
+use document_framing::{Framing, InputFiles};
+use framed_logs::{AppendError, Appending, SyncPolicy, append_inputs};
 use program_base::arguments::{self, framing_of, word, wrong_words};
 use program_base::byte_size::parse_size;
 use program_base::command_words::{Argument, command_of};
-use program_base::document_output::standard_output;
-use program_base::expected_count::{ExpectedCount, expect};
+use program_base::document_output::{DocumentOutput, standard_output};
 use program_base::failure::{Failure, FailureCause, with_file};
-use program_base::input_files::{files_from, inputs, list_of, names_of, total_bytes, words_of};
+use program_base::input_files::{
+    files_from, input_failure, inputs, list_of, names_of, null, unnamed_words, words_of,
+};
+use program_base::input_progress::InputProgress;
 use program_base::progress::Progress;
 use segmented_log::Commit;
 use std::alloc::{AllocError, Global};
-use store_files::SystemFiles;
+use store_files::{DiskFolder, SystemFiles};
 
 const EXAMPLE: &str = "\
 The log is begun if FOLDER is missing or empty. Once 'append' ends with status 0, all records are on the disk. A crash
@@ -66,8 +69,9 @@ pub fn command<'a>(alloc: Global) -> Result<Command<'a>, AllocError> {
             },
             inputs(),
             files_from(),
+            null(),
             sync(),
-            expect(
+            arguments::expect(
                 "Append no record unless exactly COUNT of them come; all are put on the disk at the end, \
                  as by '--sync end'",
             ),
@@ -112,7 +116,8 @@ fn tail_options_of(alloc: Global, matches: &ArgMatches<'_>) -> Result<TailOption
 struct AppendOptions {
     policy: SyncPolicy,
     framing: Framing,
-    expected: ExpectedCount,
+    // How many records have to come, if the words say so.
+    expected: Option<u64>,
     tail: TailOptions,
     prints_numbers: bool,
     is_quiet: bool,
@@ -120,9 +125,9 @@ struct AppendOptions {
 
 // How the words say that records are appended.
 fn options_of(alloc: Global, matches: &ArgMatches<'_>) -> Result<AppendOptions, Failure> {
-    let expected = ExpectedCount::of("records", matches);
+    let expected = matches.get_one::<u64>("expect");
     Ok(AppendOptions {
-        policy: policy_of(alloc, matches, expected.is_given())?,
+        policy: policy_of(alloc, matches, expected.is_some())?,
         framing: framing_of(alloc, matches)?,
         expected,
         tail: tail_options_of(alloc, matches)?,
@@ -131,14 +136,17 @@ fn options_of(alloc: Global, matches: &ArgMatches<'_>) -> Result<AppendOptions, 
     })
 }
 
-// The log at a path, and how records are appended to it.
+// A log on disk to which records are appended.
+type DiskAppending<'a, S> = Appending<DiskFolder<S>, DocumentOutput<'a>, InputProgress<'a>>;
+
+// The log at a path, to which the records of inputs are to be appended.
 fn appending_of<'a, S: SystemFiles>(
     rt: &'a HostRuntime,
     system: S,
-    path: &'a str,
+    path: &str,
     options: AppendOptions,
-    total: Option<u64>,
-) -> Result<Appending<'a, S>, Failure>
+    paths: &[&str],
+) -> Result<DiskAppending<'a, S>, Failure>
     requires unchanged { IsTrue S.honest → (d : List ℕ) → S.changes system d ≡ [] }
 {
     let alloc = rt.alloc();
@@ -147,64 +155,81 @@ fn appending_of<'a, S: SystemFiles>(
         false => None,
     };
     let opened = open_or_begin(rt, system, path, options.tail);
-    let log = with_file(alloc, path, opened)?;
-    let end = log.end();
-    Ok(Appending {
-        rt,
-        path,
-        log,
-        policy: options.policy,
-        framing: options.framing,
-        expected: options.expected,
-        progress: Progress::begin(rt, options.is_quiet, total).of_records(),
-        numbers,
-        output_failure: None,
-        appended: RecordSpan { from: end, to: end },
-        waiting: 0,
-    })
+    let OpenedLog { log } = with_file(alloc, path, opened)?;
+    let progress = InputProgress::begin(rt, options.is_quiet, "records", options.framing, paths);
+    Ok(Appending::new(log, options.policy, numbers, progress))
 }
 
 // Prints a line on what was appended, where progress is shown.
-fn summarize<S: SystemFiles>(appending: &Appending<'_, S>) {
-    if appending.progress.is_shown() {
-        let (appended, seconds) = (
-            appending.appended,
-            appending.progress.elapsed().as_secs_f64(),
-        );
-        let _ = eprintln!(appending.rt; "{appended}, {seconds:.3} seconds");
+fn summarize(rt: &HostRuntime, progress: &Progress<'_>, appended: RecordSpan) {
+    if progress.is_shown() {
+        let seconds = progress.elapsed().as_secs_f64();
+        let _ = eprintln!(rt; "{appended}, {seconds:.3} seconds");
     }
 }
 
+// Why not all records of these inputs were appended to the log at a path, or their numbers not printed.
+fn failure_of(alloc: Global, path: &str, paths: &[&str], error: AppendError) -> Failure {
+    let cause = match error {
+        AppendError::Input(fault) => return input_failure(alloc, paths, fault),
+        AppendError::Log(error) => refused(error),
+        AppendError::Output(error) => FailureCause::Output(error),
+        AppendError::OtherCount { expected, came } => FailureCause::OtherCount {
+            things: "records",
+            expected,
+            came,
+        },
+    };
+    Failure::at_file(alloc, path, cause)
+}
+
 // Reports why not all records were appended, or their numbers not printed, and then which records are in the log.
-fn report<S: SystemFiles>(appending: &Appending<'_, S>, failure: &Failure) -> Result<(), Failure> {
-    let Some(status) = failure.report(appending.rt) else {
+fn report(
+    rt: &HostRuntime,
+    path: &str,
+    failure: &Failure,
+    appended: RecordSpan,
+    is_broken: bool,
+) -> Result<(), Failure> {
+    let Some(status) = failure.report(rt) else {
         return Ok(());
     };
-    let (path, appended) = (appending.path, appending.appended);
-    let more = if appending.log.is_broken() {
-        UNKNOWN_MORE
-    } else {
-        ""
-    };
-    let _ = eprintln!(appending.rt; "zevkhadun: {path}: appended: {appended}{more}");
+    let more = if is_broken { UNKNOWN_MORE } else { "" };
+    let _ = eprintln!(rt; "zevkhadun: {path}: appended: {appended}{more}");
     Err(Failure::from(FailureCause::Reported(status)))
 }
 
-// Appends the records of these files, or of the standard input where none are named, and says how many there were.
-fn append_all<S: SystemFiles>(
-    appending: &mut Appending<'_, S>,
-    paths: Option<&[&str]>,
+// Appends the records of these inputs, and says how many there were.
+fn append_all<S: SystemFiles, I: InputFiles>(
+    rt: &HostRuntime,
+    files: &mut I,
+    path: &str,
+    options: AppendOptions,
+    paths: &[&str],
+    appending: &mut DiskAppending<'_, S>,
 ) -> Result<(), Failure> {
-    let failure = match appending.append_inputs(paths) {
-        Ok(()) => appending.output_failure.take(),
-        Err(failure) => Some(failure),
-    };
-    appending.progress.end();
-    match failure {
-        Some(failure) => report(appending, &failure),
-        None => {
-            summarize(appending);
+    let alloc = rt.alloc();
+    let from = appending.synced_to;
+    let outcome = append_inputs(
+        alloc,
+        options.framing,
+        files,
+        paths,
+        options.expected,
+        appending,
+    );
+    let progress = &appending.progress.line;
+    progress.end();
+    let to = appending.synced_to;
+    let appended = RecordSpan { from, to };
+    match outcome {
+        Ok(()) => {
+            summarize(rt, progress, appended);
             Ok(())
+        }
+        Err(error) => {
+            let failure = failure_of(alloc, path, paths, error);
+            report(rt, path, &failure, appended, appending.log.is_broken())
         }
     }
 }
@@ -219,20 +244,21 @@ fn seal_large<S: SystemFiles>(rt: &HostRuntime, path: &str, log: &mut OpenedLog<
     }
 }
 
-// Appends them to the log at a path.
-fn append<S: SystemFiles>(
+// Appends the records of these inputs to the log at a path.
+fn append<S: SystemFiles, I: InputFiles>(
     rt: &HostRuntime,
     system: S,
+    files: &mut I,
     path: &str,
     options: AppendOptions,
-    paths: Option<&[&str]>,
+    paths: &[&str],
 ) -> Result<(), Failure>
     requires unchanged { IsTrue S.honest → (d : List ℕ) → S.changes system d ≡ [] }
 {
-    let total = paths.and_then(|paths| total_bytes(rt, paths));
-    let mut appending = appending_of(rt, system, path, options, total)?;
-    let appended = append_all(&mut appending, paths);
-    let Appending { mut log, .. } = appending;
+    let mut appending = appending_of(rt, system, path, options, paths)?;
+    let appended = append_all(rt, files, path, options, paths, &mut appending);
+    let Appending { log, .. } = appending;
+    let mut log = OpenedLog { log };
     if appended.is_ok() {
         seal_large(rt, path, &mut log);
     }
@@ -241,9 +267,10 @@ fn append<S: SystemFiles>(
 }
 
 /// Appends the records.
-pub fn run<S: SystemFiles>(
+pub fn run<S: SystemFiles, I: InputFiles>(
     rt: &HostRuntime,
     system: S,
+    files: &mut I,
     matches: &ArgMatches<'_>,
 ) -> Result<(), Failure>
     requires unchanged { IsTrue S.honest → (d : List ℕ) → S.changes system d ≡ [] }
@@ -252,15 +279,8 @@ pub fn run<S: SystemFiles>(
     let path = word(alloc, matches, FOLDER)?;
     let options = options_of(alloc, matches)?;
     let list = list_of(rt, matches)?;
-    let words = words_of(matches);
-    let names = names_of(alloc, words.unwrap_or(&[]), list.as_deref());
+    let words = words_of(matches).unwrap_or(unnamed_words(list.is_some()));
+    let names = names_of(alloc, matches, words, list.as_deref());
     let names = with_file(alloc, path, names)?;
-    let are_named = words.is_some() || list.is_some();
-    append(
-        rt,
-        system,
-        path,
-        options,
-        are_named.then_some(names.as_slice()),
-    )
+    append(rt, system, files, path, options, &names)
 }

@@ -3,12 +3,14 @@
 ghost use Rattle.std.specs.Prelude.{◌≡◌, ℕ, List, [], IsTrue};
 
 use crate::number_range::NumberRange;
-use crate::read_log::{ReadLog, open_to_read};
+use crate::read_log::{OpenLog, check_end, open_to_read, unprinted};
 use crate::{FOLDER, folder};
 use clap::{ArgMatches, Command};
+use document_framing::DocumentForm;
+use framed_logs::print_records;
 use program_base::arguments;
 use program_base::command_words::{Argument, command_of};
-use program_base::document_output::{self, DocumentForm, DocumentOutput, form_of, standard_output};
+use program_base::document_output::{self, DocumentOutput, form_of, standard_output};
 use program_base::failure::{Failure, FailureCause, to_output, with_file};
 use program_base::listed_numbers::ListedNumbers;
 use std::alloc::{AllocError, Global};
@@ -48,7 +50,7 @@ pub fn command<'a>(alloc: Global) -> Result<Command<'a>, AllocError> {
 #[derive(Drop)]
 struct Printer<'a, S: SystemFiles> {
     alloc: Global,
-    read: ReadLog<S>,
+    read: OpenLog<S>,
     output: DocumentOutput<'a>,
     form: DocumentForm,
 }
@@ -56,12 +58,10 @@ struct Printer<'a, S: SystemFiles> {
 impl<'a, S: SystemFiles> Printer<'a, S> {
     // Prints the records of a range.
     fn print(&mut self, range: NumberRange) -> Result<(), FailureCause> {
-        for number in range.among(self.read.first(), self.read.end())? {
-            let record = self.read.get(number)?;
-            self.form
-                .write(self.alloc, &mut self.output, number, &record)?;
-        }
-        Ok(())
+        let numbers = range.among(self.read.first(), self.read.end())?;
+        let (from, to) = (numbers.start, numbers.end);
+        let (read, output) = (&mut self.read, &mut self.output);
+        print_records(self.alloc, read, self.form, from, to, output).map_err(unprinted)
     }
 
     // Prints the records of the range that each word names, or of those in the standard input.
@@ -140,7 +140,7 @@ fn print<S: SystemFiles>(
         form,
     };
     printer.print_words(rt, words)?;
-    printer.read.check_end()
+    check_end(&printer.read)
 }
 
 /// Prints the records.

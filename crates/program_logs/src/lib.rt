@@ -6,14 +6,12 @@ mod cat;
 mod compact;
 mod drop;
 mod get;
-mod inputs;
 mod log_refusal;
 mod number_range;
 mod opened_log;
 mod places;
 mod read_log;
 mod record_span;
-mod records;
 mod repair;
 mod seal;
 mod segments;
@@ -24,6 +22,7 @@ mod verify;
 ghost use Rattle.std.specs.Prelude.{◌≡◌, ℕ, List, [], IsTrue};
 
 use clap::{ArgMatches, Command};
+use document_framing::InputFiles;
 use program_base::arguments::wrong_words;
 use program_base::command_words::{Argument, add};
 use program_base::failure::Failure;
@@ -105,9 +104,10 @@ fn read<S: SystemFiles>(
 }
 
 /// Does what the words ask. Nothing was changed through the system before.
-pub fn run<S: SystemFiles>(
+pub fn run<S: SystemFiles, I: InputFiles + Drop>(
     rt: &HostRuntime,
     system: S,
+    mut files: I,
     matches: &ArgMatches<'_>,
 ) -> Result<(), Failure>
     requires unchanged { IsTrue S.honest → (d : List ℕ) → S.changes system d ≡ [] }
@@ -116,7 +116,7 @@ pub fn run<S: SystemFiles>(
         return Ok(());
     };
     match name {
-        "append" => append::run(rt, system, matches),
+        "append" => append::run(rt, system, &mut files, matches),
         "repair" => repair::run(rt, system, matches),
         "seal" => seal::run(rt, system, matches),
         "compact" => compact::run(rt, system, matches),

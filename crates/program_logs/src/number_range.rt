@@ -37,9 +37,20 @@ impl NumberRange {
         })
     }
 
-    /// The range that a word names.
+    // Whether it ends before it begins.
+    fn is_backward(self) -> bool {
+        match (self.start, self.end) {
+            (Some(start), Some(end)) => start > end,
+            _ => false,
+        }
+    }
+
+    /// The range that a word names. One that ends before it begins is an error.
     pub fn parse(alloc: Global, word: &str) -> Result<NumberRange, FailureCause> {
         match NumberRange::from_word(word) {
+            Some(range) if range.is_backward() => Err(FailureCause::Words(format!(in alloc;
+                "'{word}' ends before it begins"
+            )?)),
             Some(range) => Ok(range),
             None => Err(FailureCause::Words(format!(in alloc;
                 "'{word}' is not a record number or a range"

@@ -20,7 +20,7 @@ pub struct TailOptions {
 /// parts.
 #[derive(Drop)]
 pub struct OpenedLog<S: SystemFiles> {
-    log: Box<SegmentedLog<DiskFolder<S>>>,
+    pub log: Box<SegmentedLog<DiskFolder<S>>>,
 }
 
 // Whether a file of this name is one that was being published.
@@ -69,26 +69,6 @@ impl<S: SystemFiles> OpenedLog<S> {
     /// The number after the last record that is on the disk.
     pub fn end(&self) -> u64 {
         self.log.end()
-    }
-
-    /// How many records wait for a sync.
-    pub fn pending(&self) -> u64 {
-        self.log.pending()
-    }
-
-    /// Whether a call on the folder failed: then the log may have more records than were acknowledged.
-    pub fn is_broken(&self) -> bool {
-        self.log.is_broken()
-    }
-
-    /// Puts a record after the others. It is on the disk once `sync` returns Ok.
-    pub fn append(&mut self, record: &[u8]) -> Result<u64, FailureCause> {
-        self.log.append(record).map_err(refused)
-    }
-
-    /// Puts all records that wait on the disk.
-    pub fn sync(&mut self) -> Result<(), FailureCause> {
-        self.log.sync().map_err(refused)
     }
 
     /// Puts the tail's records into a segment.

@@ -9,6 +9,7 @@ use program_base::failure::FailureCause;
 use segmented_log::{Commit, TAIL};
 use std::alloc::{AllocError, Global};
 use std::io::ErrorKind;
+use std::time::SystemTime;
 use std::{fs, io};
 use store_files::{CreateError, DiskFolder, SystemFiles};
 
@@ -34,6 +35,13 @@ pub fn tail_bytes(rt: &HostRuntime, folder: &str) -> Result<Option<u64>, Failure
         Err(error) if error.kind() == ErrorKind::NotFound => Ok(None),
         Err(error) => Err(FailureCause::System(error)),
     }
+}
+
+/// How many bytes the tail of a log has, and when it was written last: another pair says that it has changed.
+pub fn tail_mark(rt: &HostRuntime, folder: &str) -> Option<(u64, SystemTime)> {
+    let path = file_in(rt.alloc(), folder, TAIL).ok()?;
+    let found = fs::symlink_metadata(rt, path.as_str()).ok()?;
+    Some((found.len(), found.modified().ok()?))
 }
 
 // Fails, as a folder has no tail of a log.

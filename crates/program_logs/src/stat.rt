@@ -4,7 +4,7 @@ ghost use Rattle.std.specs.Prelude.{◌≡◌, ℕ, List, [], IsTrue};
 
 use crate::FOLDER;
 use crate::places::{file_in, tail_bytes};
-use crate::read_log::{ReadLog, open_to_read};
+use crate::read_log::{OpenLog, check_end, open_to_read};
 use crate::segments::segment_numbers;
 use clap::{ArgMatches, Command};
 use program_base::command_words::{Argument, command_of};
@@ -68,7 +68,7 @@ impl LogNumbers {
     fn of<S: SystemFiles>(
         rt: &HostRuntime,
         path: &str,
-        log: &ReadLog<S>,
+        log: &OpenLog<S>,
     ) -> Result<LogNumbers, FailureCause> {
         let segments = segment_numbers(rt, path)?;
         Ok(LogNumbers {
@@ -111,11 +111,11 @@ fn print<S: SystemFiles>(
     let numbers = LogNumbers::of(rt, path, &read)?.named();
     if is_json {
         print_object(rt, "folder", path, &numbers)?;
-        return read.check_end();
+        return check_end(&read);
     }
     to_output(println!(rt; "{path}"))?;
     print_lines(rt, &numbers)?;
-    read.check_end()
+    check_end(&read)
 }
 
 /// Prints the numbers of each log. It goes on after one that can't be read, and fails at the end.

@@ -1,22 +1,12 @@
-//! When appended records are put on the disk.
+//! The words that say when appended records are put on the disk.
 
 use clap::ArgMatches;
 use clap::parser::ValueSource;
+use framed_logs::SyncPolicy;
 use program_base::arguments::{word, wrong_words};
 use program_base::command_words::Argument;
 use program_base::failure::Failure;
 use std::alloc::Global;
-
-/// When appended records are put on the disk, and so acknowledged.
-#[derive(Clone, Copy, PartialEq, Eq)]
-pub enum SyncPolicy {
-    /// After each record.
-    Every,
-    /// Once a batch of them waits, and before more input is waited for.
-    Batch,
-    /// Once, after all of them.
-    End,
-}
 
 const EVERY: &str = "every";
 

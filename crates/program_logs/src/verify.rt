@@ -62,8 +62,9 @@ fn verifying(is_quiet: bool) -> Verifying {
 }
 
 // Whether the segment of this number is sound. Another one is reported.
-fn check_segment(
+fn check_segment<S: SystemFiles>(
     rt: &HostRuntime,
+    system: &S,
     folder: &str,
     first: u64,
     is_quiet: bool,
@@ -75,7 +76,7 @@ fn check_segment(
         path: path.as_str(),
         is_tantivy: false,
     };
-    let found = verifying(is_quiet).look_at(rt, store)?;
+    let found = verifying(is_quiet).look_at(rt, system, store)?;
     if found.is_sound() {
         return Ok(true);
     }
@@ -84,15 +85,16 @@ fn check_segment(
 }
 
 // Whether all segments of a log are sound.
-fn check_segments(
+fn check_segments<S: SystemFiles>(
     rt: &HostRuntime,
+    system: &S,
     folder: &str,
     segments: &[u64],
     is_quiet: bool,
 ) -> Result<bool, FailureCause> {
     let mut are_sound = true;
     for first in segments {
-        are_sound &= check_segment(rt, folder, *first, is_quiet)?;
+        are_sound &= check_segment(rt, system, folder, *first, is_quiet)?;
     }
     Ok(are_sound)
 }
@@ -216,7 +218,7 @@ fn verify<S: SystemFiles>(
 {
     check_log(rt, path)?;
     let segments = segment_numbers(rt, path)?;
-    let are_sound = check_segments(rt, path, &segments, is_quiet)?;
+    let are_sound = check_segments(rt, &**system, path, &segments, is_quiet)?;
     let is_whole = check_tail(rt, system, path)?;
     if !(are_sound && is_whole) {
         return Ok(false);

@@ -1,1 +1,4 @@
-pub mod FillLemmas
+pub mod GivenLemmas
+pub mod MergedLemmas
+pub mod RangesLemmas
+pub mod RoundTripLemmas

@@ -1,20 +1,30 @@
 //! `cat`: prints all documents in order.
 
-ghost use Rattle.store_commands.specs.LeftOut.{AreApartFrom};
+ghost use Rattle.std.specs.Prelude.{◌≡◌, ◌&&◌, ℕ, List, IfOk, IsTrue, OnOk};
+ghost use Rattle.store_commands.specs.Damaged.{is_damaged_in};
+ghost use Rattle.store_commands.specs.LeftOut.{is_among, AreApartFrom};
+ghost use Rattle.store_files.specs.Disk.{replay, seen};
+ghost use Rattle.store_files.specs.Paths.{IsPath};
+ghost use Rattle.store_reader.specs.Reading.{Reading, IsSameStore};
+ghost use Rattle.program_base.specs.StoresOnDisk.{IsReaderOf};
+ghost use Rattle.program_stores.specs.Printed.{PrintsOthers, skips};
 
-use crate::block_walk::write_documents;
 use clap::{ArgMatches, Command};
+use docstore::{FileHandle, StoreReader};
+use document_framing::DocumentForm;
+use framed_stores::print_store;
 use program_base::arguments;
 use program_base::command_words::{Argument, command_of};
-use program_base::document_output::{self, DocumentForm, form_of, standard_output};
+use program_base::document_output::{self, form_of, standard_output};
 use program_base::failure::{Failure, FailureCause, to_output, with_file};
 use program_base::status::Status;
-use program_base::store_file::{DiskReader, StorePath, store_path, with_reason};
+use program_base::store_file::{StorePath, store_path, with_reason};
 use program_base::word_files::{IdWord, id_words, words_in};
 use std::alloc::{AllocError, Global};
 use std::io::Write;
 use store_commands::damaged_documents::damaged_documents;
 use store_commands::left_out::{IdSpan, joined, left_out};
+use store_files::SystemFiles;
 
 const EXAMPLE: &str = "\
 Examples:
@@ -49,51 +59,67 @@ pub fn command<'a>(alloc: Global) -> Result<Command<'a>, AllocError> {
     )
 }
 
-// What is printed of a store.
+/// What is printed of a store: how, without which documents, and whether damaged ones are skipped.
 #[derive(Clone, Copy)]
-struct Printing<'p, 'w> {
-    form: DocumentForm,
-    without: &'p [&'w str],
-    keeps_going: bool,
+pub struct Printing<'p, 'w> {
+    pub form: DocumentForm,
+    pub without: &'p [&'w str],
+    pub keeps_going: bool,
 }
 
 impl<'p, 'w> Printing<'p, 'w> {
-    // Prints the documents of an opened store, except those of the ranges, which are in order and do not touch.
-    fn print_others(
-        &self,
-        rt: &HostRuntime,
-        reader: &mut DiskReader,
-        skipped: &[IdSpan],
-    ) -> Result<(), FailureCause>
-        requires { AreApartFrom 0 skipped.now }
+    // Which documents of an opened store are damaged, if they are to be skipped.
+    fn damaged<H: FileHandle>(
+        self,
+        alloc: Global,
+        reader: &mut StoreReader<H>,
+    ) -> Result<Vec<IdSpan>, FailureCause>
+        ensures among { IsTrue reader.old.file.honest → IfOk result (λ spans. (id : ℕ) → is_among spans.items id
+            ≡ (self.entry.keeps_going && is_damaged_in reader.old id)) }
+        ensures apart { IfOk result (λ spans. AreApartFrom 0 spans.items) }
+        ensures same_store { IsSameStore reader.old reader.new }
     {
-        let mut output = standard_output(rt)?;
-        write_documents(rt.alloc(), reader, &mut output, self.form, skipped)?;
-        to_output(output.flush())
+        if !self.keeps_going {
+            return Ok(Vec::new(alloc));
+        }
+        Ok(damaged_documents(alloc, reader)?)
     }
 
     // Prints the documents of an opened store, and returns which are damaged, if they are to be skipped.
-    fn print_documents(
-        &self,
-        rt: &HostRuntime,
-        reader: &mut DiskReader,
-    ) -> Result<Vec<IdSpan>, FailureCause> {
-        let alloc = rt.alloc();
+    fn print_documents<H: FileHandle, W: Write>(
+        self,
+        alloc: Global,
+        reader: &mut StoreReader<H>,
+        output: &mut W,
+    ) -> Result<Vec<IdSpan>, FailureCause>
+        ensures { IsTrue reader.old.file.honest → OnOk result (PrintsOthers self.entry.form
+            (skips self.entry.without.now self.entry.keeps_going reader.old) reader.old
+            (W.contents output.old) (W.contents output.new)) }
+    {
         let left_out = left_out(alloc, self.without, reader.num_docs())?;
-        let damaged = if self.keeps_going {
-            damaged_documents(alloc, &mut **reader)?
-        } else {
-            Vec::new(alloc)
-        };
+        let damaged = self.damaged(alloc, reader)?;
         let skipped = joined(alloc, &left_out, &damaged)?;
-        self.print_others(rt, reader, &skipped)?;
+        print_store(alloc, reader, self.form, output, &skipped)?;
+        to_output(output.flush())?;
         Ok(damaged)
     }
 
-    // Prints the documents of a store, and returns which are damaged, if they are to be skipped.
-    fn print(&self, rt: &HostRuntime, store: StorePath<'_>) -> Result<Vec<IdSpan>, FailureCause> {
-        let mut reader = store.reader(rt)?;
-        let printed = self.print_documents(rt, &mut reader);
+    /// Prints the documents of the store of this path, and returns which are damaged, if they are to be skipped. An Ok
+    /// says that the output has exactly the store's documents more that are not skipped, each in its form.
+    pub fn print<S: SystemFiles, W: Write>(
+        self,
+        alloc: Global,
+        system: &S,
+        store: StorePath<'_>,
+        output: &mut W,
+    ) -> Result<Vec<IdSpan>, FailureCause>
+        ensures { IsTrue S.honest → (d n : List ℕ) → IsPath d n store.entry.path.now → OnOk result ((reader : Reading)
+            × IsReaderOf store.entry.is_tantivy (seen (replay (S.changes system.now d) (S.start d)) n) reader
+            × PrintsOthers self.entry.form (skips self.entry.without.now self.entry.keeps_going reader) reader
+            (W.contents output.old) (W.contents output.new)) }
+    {
+        let mut reader = store.reader(alloc, system)?;
+        let printed = self.print_documents(alloc, &mut *reader, output);
         with_reason(&reader, printed)
     }
 }
@@ -114,8 +140,9 @@ fn report_skipped(rt: &HostRuntime, path: &str, damaged: &[IdSpan]) -> Result<()
 }
 
 // Prints the documents of a store, without those that words or their files name.
-fn print_without(
+fn print_without<S: SystemFiles>(
     rt: &HostRuntime,
+    system: &S,
     store: StorePath<'_>,
     form: DocumentForm,
     read: &[IdWord],
@@ -128,14 +155,21 @@ fn print_without(
         without: &without,
         keeps_going,
     };
-    let damaged = with_file(alloc, store.path, printing.print(rt, store))?;
+    let mut output = with_file(alloc, store.path, standard_output(rt))?;
+    let printed = printing.print(alloc, system, store, &mut output);
+    let damaged = with_file(alloc, store.path, printed)?;
     report_skipped(rt, store.path, &damaged)
 }
 
 /// Prints the documents.
-pub fn run(rt: &HostRuntime, matches: &ArgMatches<'_>) -> Result<(), Failure> {
+pub fn run<S: SystemFiles>(
+    rt: &HostRuntime,
+    system: &S,
+    matches: &ArgMatches<'_>,
+) -> Result<(), Failure> {
     let store = store_path(rt, matches)?;
     let form = form_of(rt.alloc(), matches)?;
     let read = id_words(rt, matches.get_strs("without").unwrap_or(&[]))?;
-    print_without(rt, store, form, &read, matches.get_flag("keep-going"))
+    let keeps_going = matches.get_flag("keep-going");
+    print_without(rt, system, store, form, &read, keeps_going)
 }

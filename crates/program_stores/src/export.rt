@@ -10,7 +10,7 @@ use program_base::progress::Progress;
 use program_base::store_file::{OpenReader, StorePath, explained};
 use program_base::store_output::{OutputPlace, output_place, summarize};
 use std::alloc::{AllocError, Global};
-use store_files::SystemFiles;
+use store_files::{ReadAt, SystemFiles};
 use store_published::{FillError, publish_export};
 
 // How many bytes of the store are in memory at a time.
@@ -45,9 +45,9 @@ pub fn command<'a>(alloc: Global) -> Result<Command<'a>, AllocError> {
 }
 
 // The failure of an export: of the store that is read, or of the file that is written.
-fn failure_of(
+fn failure_of<F: ReadAt>(
     alloc: Global,
-    reader: &OpenReader,
+    reader: &OpenReader<F>,
     input: &str,
     out: &str,
     error: FillError<StoreError>,
@@ -77,7 +77,7 @@ fn export<S: SystemFiles>(
     progress: &Progress<'_>,
 ) -> Result<(), Failure> {
     let alloc = rt.alloc();
-    let mut reader = with_file(alloc, store.path, store.reader(rt))?;
+    let mut reader = with_file(alloc, store.path, store.reader(alloc, &system))?;
     let mut place = output_place(rt, system, output, &[store.path])?;
     let OutputPlace { folder, name } = &mut *place;
     match publish_export(alloc, folder, name.as_str(), &mut *reader, PART_BYTES) {

@@ -6,13 +6,13 @@ use docstore::{DataPart, FOOTER_LEN, StoreError, TerminatingWrite, block_read_in
 use program_base::arguments;
 use program_base::command_words::{Argument, command_of};
 use program_base::failure::{Failure, FailureCause, with_file};
-use program_base::output_path::OutputPath;
+use program_base::output_path::{FileOutput, OutputPath};
 use program_base::store_file::{DiskReader, StorePath, store_path, with_reason};
 use std::alloc::{AllocError, Global};
 use std::fs;
 use store_commands::block_documents::documents_with_room;
 use store_commands::store_numbers::{StoreNumbers, block_sizes, numbers_of};
-use store_files::{DiskSink, SystemFiles};
+use store_files::{ReadAt, SystemFiles};
 use store_page::{Beginning, BlockStarts, Excerpt, Histogram, MOST_EXCERPTS, Page, excerpt_bytes};
 
 const EXAMPLE: &str = "\
@@ -106,7 +106,10 @@ impl Documents {
 }
 
 // The documents of an opened store.
-fn documents_of(alloc: Global, reader: &mut DiskReader) -> Result<Documents, StoreError> {
+fn documents_of<F: ReadAt>(
+    alloc: Global,
+    reader: &mut DiskReader<F>,
+) -> Result<Documents, StoreError> {
     let mut documents = Documents::new(alloc, reader.num_blocks());
     let mut next_id = 0;
     // Each block has a document.
@@ -131,7 +134,7 @@ fn spread_of(sizes: &[usize]) -> Histogram {
 }
 
 // The first document of each block of a store.
-fn starts_of(alloc: Global, reader: &DiskReader) -> Result<BlockStarts, StoreError> {
+fn starts_of<F: ReadAt>(alloc: Global, reader: &DiskReader<F>) -> Result<BlockStarts, StoreError> {
     let mut starts = Vec::new(alloc);
     for checkpoint in reader.block_checkpoints() {
         starts.push(checkpoint.doc_range.start)?;
@@ -157,11 +160,11 @@ fn named(numbers: &StoreNumbers, damaged: u64) -> [(&'static str, u64); 11] {
 }
 
 // The page on an opened store of this name, whose file has this many bytes.
-fn page_on(
+fn page_on<F: ReadAt>(
     alloc: Global,
     name: &str,
     file_bytes: u64,
-    reader: &mut DiskReader,
+    reader: &mut DiskReader<F>,
 ) -> Result<String, FailureCause> {
     let documents = documents_of(alloc, reader)?;
     let sizes = block_sizes(alloc, &**reader)?;
@@ -188,15 +191,19 @@ fn page_on(
 }
 
 // The page on a store.
-fn page_of(rt: &HostRuntime, store: StorePath<'_>) -> Result<String, FailureCause> {
-    let mut reader = store.reader(rt)?;
+fn page_of<S: SystemFiles>(
+    rt: &HostRuntime,
+    system: &S,
+    store: StorePath<'_>,
+) -> Result<String, FailureCause> {
+    let mut reader = store.reader(rt.alloc(), system)?;
     let file_bytes = fs::metadata(rt, store.path)?.len();
     let page = page_on(rt.alloc(), store.path, file_bytes, &mut reader);
     with_reason(&reader, page)
 }
 
 // Writes the page.
-fn write_page<S: SystemFiles>(sink: &mut DiskSink<S>, page: &str) -> Result<(), FailureCause> {
+fn write_page<S: SystemFiles>(sink: &mut FileOutput<S>, page: &str) -> Result<(), FailureCause> {
     if sink.write_all(page.as_bytes()).is_ok() && sink.terminate().is_ok() {
         return Ok(());
     }
@@ -217,7 +224,8 @@ fn draw<S: SystemFiles>(
     output.check_name(alloc, "a page can't be written to standard output")?;
     output.check_inputs(rt, &[store.path])?;
     let mut sink = with_file(alloc, output.path, output.sink(alloc, system))?;
-    let page = with_file(alloc, store.path, page_of(rt, store))?;
+    let page = page_of(rt, sink.folder().system(), store);
+    let page = with_file(alloc, store.path, page)?;
     with_file(alloc, output.path, write_page(&mut sink, page.as_str()))
 }
 
@@ -233,6 +241,6 @@ pub fn run<S: SystemFiles>(
             let replaces = matches.get_flag("replace");
             draw(rt, system, store, OutputPath { path, replaces })
         }
-        None => with_file(rt.alloc(), store.path, print_store(rt, store)),
+        None => with_file(rt.alloc(), store.path, print_store(rt, &system, store)),
     }
 }

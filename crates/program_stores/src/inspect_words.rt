@@ -6,6 +6,7 @@ use program_base::failure::{FailureCause, to_output};
 use program_base::store_file::{DiskReader, StorePath, with_reason};
 use std::alloc::{AllocError, Global};
 use store_commands::store_numbers::numbers_in;
+use store_files::{ReadAt, SystemFiles};
 use store_page::excerpts::push_hex;
 
 /// How many blocks are printed at most.
@@ -56,7 +57,10 @@ fn print_block(rt: &HostRuntime, number: usize, block: &DataPart) -> Result<(), 
 }
 
 // Prints the first blocks of an opened store, and how many others it has.
-fn print_blocks(rt: &HostRuntime, reader: &mut DiskReader) -> Result<(), FailureCause> {
+fn print_blocks<F: ReadAt>(
+    rt: &HostRuntime,
+    reader: &mut DiskReader<F>,
+) -> Result<(), FailureCause> {
     let mut next_id = 0;
     for number in 0..MOST_BLOCKS {
         let Some(block) = reader.read_block(rt.alloc(), next_id)? else {
@@ -72,8 +76,12 @@ fn print_blocks(rt: &HostRuntime, reader: &mut DiskReader) -> Result<(), Failure
 }
 
 /// Prints what a store has.
-pub fn print_store(rt: &HostRuntime, store: StorePath<'_>) -> Result<(), FailureCause> {
-    let mut reader = store.reader(rt)?;
+pub fn print_store<S: SystemFiles>(
+    rt: &HostRuntime,
+    system: &S,
+    store: StorePath<'_>,
+) -> Result<(), FailureCause> {
+    let mut reader = store.reader(rt.alloc(), system)?;
     let numbers = numbers_in(rt.alloc(), &*reader)?;
     print_lines(rt, store.path, &numbers)?;
     let printed = print_blocks(rt, &mut reader);

@@ -2,7 +2,6 @@
 #![tactic(auto)]
 
 pub mod append;
-mod block_walk;
 pub mod cat;
 pub mod export;
 pub mod get;
@@ -10,6 +9,7 @@ pub mod inspect;
 mod inspect_words;
 pub mod merge;
 pub mod pack;
+pub mod round_trip;
 pub mod stat;
 mod stat_output;
 pub mod verify;

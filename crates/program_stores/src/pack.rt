@@ -1,33 +1,29 @@
 //! `pack`: writes a store of the documents of files or of the standard input.
 
-ghost use Rattle.std.specs.Prelude.{OnOk};
-ghost use Rattle.store_published.specs.Filling.{AddsSome};
+ghost use Rattle.std.specs.Prelude.{◌≡◌, map, IfOk, IsOk, IsTrue, string_bytes};
+ghost use Rattle.document_framing.specs.Feeding.{all_documents};
+ghost use Rattle.document_framing.specs.Inputs.{inputs_of};
+ghost use Rattle.framed_stores.specs.Packing.{ArePacked};
+ghost use Rattle.program_base.specs.StoresOnDisk.{IsPublished};
+ghost use Rattle.store_files.specs.Disk.{replay};
+ghost use Rattle.store_published.specs.Filling.{IsStoreOf};
 
 use clap::{ArgMatches, Command};
-use docstore::{StoreWriter, TerminatingWrite};
-use document_framing::{Framing, split_after};
+use document_framing::{Framing, InputFiles};
+use framed_stores::{PackError, PackedInputs};
 use program_base::arguments::{self, framing_of, shape_of};
 use program_base::command_words::{Argument, command_of};
-use program_base::expected_count::{ExpectedCount, expect};
-use program_base::failure::{Failure, with_file};
+use program_base::failure::{Failure, FailureCause, with_file};
 use program_base::input_files::{
-    buffered, files_from, framing_bytes, inputs, list_of, names_of, open_input, total_bytes,
-    words_of,
+    files_from, input_failure, inputs, list_of, names_of, null, unnamed_words, words_of,
 };
+use program_base::input_progress::InputProgress;
 use program_base::output_path::{OutputPath, output_of};
-use program_base::progress::Progress;
-use program_base::store_output::{end_output, output_place};
+use program_base::store_output::{Outcome, OutputPlace, end_output, output_place};
 use std::alloc::{AllocError, Global};
-use std::io::{BufRead, IsTerminal};
 use store_commands::StoreShape;
 use store_files::SystemFiles;
-use store_published::{Filling, store_document};
-
-// The name of the standard input in messages.
-const STANDARD_INPUT: &str = "standard input";
-
-// What is said where the standard input is a terminal.
-const TERMINAL_NOTE: &str = "reading documents from the terminal; end with Ctrl-D";
+use store_published::FillError;
 
 const EXAMPLE: &str = "\
 Examples:
@@ -46,8 +42,9 @@ pub fn command<'a>(alloc: Global) -> Result<Command<'a>, AllocError> {
             arguments::output(),
             inputs(),
             files_from(),
+            null(),
             arguments::replace(),
-            expect(EXPECT_HELP),
+            arguments::expect(EXPECT_HELP),
             arguments::framing(),
             arguments::block_size(),
             Argument::Period,
@@ -63,9 +60,10 @@ pub const EXPECT_HELP: &str =
 /// How documents are packed, by the words.
 #[derive(Clone, Copy)]
 pub struct PackingOptions {
-    framing: Framing,
-    expected: ExpectedCount,
-    is_quiet: bool,
+    pub framing: Framing,
+    /// How many documents have to come, if the words say so.
+    pub expected: Option<u64>,
+    pub is_quiet: bool,
 }
 
 impl PackingOptions {
@@ -73,244 +71,91 @@ impl PackingOptions {
     pub fn of(alloc: Global, matches: &ArgMatches<'_>) -> Result<PackingOptions, Failure> {
         Ok(PackingOptions {
             framing: framing_of(alloc, matches)?,
-            expected: ExpectedCount::of("documents", matches),
+            expected: matches.get_one::<u64>("expect"),
             is_quiet: matches.get_flag("quiet"),
         })
     }
 }
 
-/// What is packed: documents of files or of the standard input.
-#[derive(Drop)]
-pub struct Packing<'a, 'o, 'p, 'w> {
+/// The documents of these inputs, as what fills a store.
+pub fn packed_inputs<'a, 'p, 'w, F: InputFiles + Drop>(
     rt: &'a HostRuntime,
-    out: &'o str,
+    files: F,
     paths: &'p [&'w str],
-    framing: Framing,
-    framing_bytes: u64,
-    expected: ExpectedCount,
-    pub progress: Progress<'a>,
+    options: PackingOptions,
+) -> PackedInputs<'p, 'w, F, InputProgress<'a>>
+    ensures framing { result.framing ≡ options.framing }
+    ensures files { result.files ≡ files }
+    ensures paths { result.paths.now ≡ paths.now }
+    ensures expected { result.expected ≡ options.expected }
+{
+    PackedInputs {
+        alloc: rt.alloc(),
+        framing: options.framing,
+        files,
+        paths,
+        expected: options.expected,
+        progress: InputProgress::begin(rt, options.is_quiet, "documents", options.framing, paths),
+    }
 }
 
-impl<'a, 'o, 'p, 'w> Packing<'a, 'o, 'p, 'w> {
-    /// Of the documents of these files, of which `-` is the standard input, into a store of this name.
-    pub fn of_files(
-        rt: &'a HostRuntime,
-        out: &'o str,
-        paths: &'p [&'w str],
-        options: PackingOptions,
-    ) -> Packing<'a, 'o, 'p, 'w> {
-        let PackingOptions {
-            framing,
+/// The failure of documents of these inputs that did not all come into the store of this name.
+pub fn failure_of(alloc: Global, out: &str, paths: &[&str], error: PackError) -> Failure {
+    let cause = match error {
+        PackError::Input(fault) => return input_failure(alloc, paths, fault),
+        PackError::Store(error) => FailureCause::Store(error),
+        PackError::OtherCount { expected, came } => FailureCause::OtherCount {
+            things: "documents",
             expected,
-            is_quiet,
-        } = options;
-        Packing {
-            rt,
-            out,
-            paths,
-            framing,
-            framing_bytes: framing_bytes(framing),
-            expected,
-            progress: Progress::begin(rt, is_quiet, total_bytes(rt, paths)),
+            came,
+        },
+    };
+    Failure::at_file(alloc, out, cause)
+}
+
+// What packing came to, where its failure has a name.
+fn named(alloc: Global, out: &str, paths: &[&str], outcome: Outcome<PackError>) -> Outcome<Failure>
+    ensures { IsOk result → IsOk outcome }
+{
+    match outcome {
+        Ok(written) => Ok(written),
+        Err(FillError::Filling(error)) => {
+            Err(FillError::Filling(failure_of(alloc, out, paths, error)))
         }
-    }
-
-    /// The names of the files, of which `-` is the standard input.
-    pub fn inputs(&self) -> &'p [&'w str] {
-        self.paths
-    }
-
-    // Stores a document.
-    #[inline(always)]
-    fn store<W: TerminatingWrite>(
-        &mut self,
-        writer: &mut StoreWriter<W>,
-        document: &[u8],
-    ) -> Result<(), Failure>
-        ensures { OnOk result (AddsSome writer.old writer.new) }
-    {
-        with_file(self.rt.alloc(), self.out, store_document(writer, document))?;
-        let input_bytes = (document.len() as u64).saturating_add(self.framing_bytes);
-        self.progress.add(1, input_bytes);
-        Ok(())
-    }
-
-    // Stores the documents that the input has whole in its buffer, where a byte ends each, without copying them, and
-    // returns whether there may be more. After its end an input is not read again, since a terminal would go on. A
-    // failed read is tried again, and reported, by `store_next`.
-    fn store_buffered<R: BufRead, W: TerminatingWrite>(
-        &mut self,
-        writer: &mut StoreWriter<W>,
-        input: &mut R,
-    ) -> Result<bool, Failure>
-        ensures { OnOk result (AddsSome writer.old writer.new) }
-    {
-        let Some(end) = self.framing.end() else {
-            return Ok(true);
-        };
-        let Ok(mut rest) = input.fill_buf() else {
-            return Ok(true);
-        };
-        if rest.is_empty() {
-            return Ok(false);
-        }
-        let mut taken = 0usize;
-        // Each turn takes a byte at least.
-        for _ in 0..rest.len() {
-            let Some((piece, after)) = split_after(rest, end) else {
-                break;
-            };
-            self.store(writer, self.framing.document_in(piece))?;
-            taken = taken.saturating_add(piece.len());
-            rest = after;
-        }
-        input.consume(taken);
-        Ok(true)
-    }
-
-    // Stores the next document of an input, and returns whether there may be more.
-    fn store_next<R: BufRead, W: TerminatingWrite>(
-        &mut self,
-        writer: &mut StoreWriter<W>,
-        path: &str,
-        input: &mut R,
-        document: &mut Vec<u8>,
-    ) -> Result<bool, Failure>
-        ensures { OnOk result (AddsSome writer.old writer.new) }
-    {
-        if !with_file(self.rt.alloc(), path, self.framing.read(input, document))? {
-            return Ok(false);
-        }
-        self.store(writer, document)?;
-        Ok(self.framing != Framing::Files)
-    }
-
-    // Stores each document of an input.
-    fn store_documents<R: BufRead, W: TerminatingWrite>(
-        &mut self,
-        writer: &mut StoreWriter<W>,
-        path: &str,
-        input: &mut R,
-    ) -> Result<(), Failure>
-        ensures { OnOk result (AddsSome writer.old writer.new) }
-    {
-        let mut document = Vec::new(self.rt.alloc());
-        // No input has this many documents: a store holds fewer.
-        for _ in 0..u64::MAX {
-            if !self.store_buffered(writer, input)? {
-                return Ok(());
-            }
-            if !self.store_next(writer, path, input, &mut document)? {
-                return Ok(());
-            }
-        }
-        Ok(())
-    }
-
-    // Stores each document of the standard input.
-    fn store_standard_input<W: TerminatingWrite>(
-        &mut self,
-        writer: &mut StoreWriter<W>,
-    ) -> Result<(), Failure>
-        ensures { OnOk result (AddsSome writer.old writer.new) }
-    {
-        let alloc = self.rt.alloc();
-        if self.progress.is_shown() && self.rt.stdin().is_terminal() {
-            let _ = eprintln!(self.rt; "{TERMINAL_NOTE}");
-        }
-        let input = buffered(alloc, self.rt.reader());
-        let mut input = with_file(alloc, STANDARD_INPUT, input)?;
-        self.store_documents(writer, STANDARD_INPUT, &mut *input)
-    }
-
-    // Stores each document of a file.
-    fn store_file<W: TerminatingWrite>(
-        &mut self,
-        writer: &mut StoreWriter<W>,
-        path: &str,
-    ) -> Result<(), Failure>
-        ensures { OnOk result (AddsSome writer.old writer.new) }
-    {
-        if path == "-" {
-            return self.store_standard_input(writer);
-        }
-        let mut input = with_file(self.rt.alloc(), path, open_input(self.rt, path))?;
-        self.store_documents(writer, path, &mut *input)
-    }
-
-    // Stores each document of each of these files.
-    fn store_files<W: TerminatingWrite>(
-        &mut self,
-        writer: &mut StoreWriter<W>,
-        paths: &[&str],
-    ) -> Result<(), Failure>
-        ensures { OnOk result (AddsSome writer.old writer.new) }
-    {
-        for path in paths {
-            self.store_file(writer, path)?;
-        }
-        Ok(())
-    }
-
-    /// Stores each document of each file. Fails if another number of them came than was expected.
-    pub fn store_inputs<W: TerminatingWrite>(
-        &mut self,
-        writer: &mut StoreWriter<W>,
-    ) -> Result<(), Failure>
-        ensures { OnOk result (AddsSome writer.old writer.new) }
-    {
-        let documents_before = writer.num_docs();
-        self.store_files(writer, self.paths)?;
-        let came = u64::from(writer.num_docs().saturating_sub(documents_before));
-        with_file(self.rt.alloc(), self.out, self.expected.check(came))
+        Err(FillError::Folder(error)) => Err(FillError::Folder(error)),
+        Err(FillError::Store(error)) => Err(FillError::Store(error)),
     }
 }
 
-/// It brings sound documents.
-impl<'a, 'o, 'p, 'w> Filling for Packing<'a, 'o, 'p, 'w> {
-    ghost use Rattle.store_published.specs.Filling.{AreSound};
-
-    type Error = Failure;
-
-    ghost brings = { λ old new slots. AreSound slots };
-
-    fn fill<W: TerminatingWrite>(&mut self, writer: &mut StoreWriter<W>) -> Result<(), Failure> {
-        self.store_inputs(writer)
-    }
-}
-
-// The words that stand for the standard input.
-const STANDARD_INPUT_WORDS: &[&str] = &["-"];
-
-// No words.
-const NO_WORDS: &[&str] = &[];
-
-/// The words that count where none name inputs: that for the standard input, unless a list of files names some.
-pub fn unnamed_words(has_list: bool) -> &'static [&'static str] {
-    if has_list {
-        NO_WORDS
-    } else {
-        STANDARD_INPUT_WORDS
-    }
-}
-
-// Writes a store of this name.
-fn pack<S: SystemFiles>(
+/// Packs the documents of inputs into a store, and returns the place at which it was published. An Ok says that the
+/// store has exactly these documents, in order, and that every crash leaves just this store there.
+pub fn pack<S: SystemFiles, F: InputFiles + Drop>(
     rt: &HostRuntime,
     system: S,
+    files: F,
     output: OutputPath<'_>,
     shape: StoreShape,
-    packing: &mut Packing<'_, '_, '_, '_>,
-) -> Result<(), Failure> {
-    let mut place = output_place(rt, system, output, packing.inputs())?;
-    let outcome = place.publish(rt.alloc(), shape, packing);
-    end_output(rt, output.path, outcome, &packing.progress)
+    paths: &[&str],
+    options: PackingOptions,
+) -> Result<Box<OutputPlace<S>>, Failure>
+    ensures packed { IsTrue S.honest → IfOk result (λ place. IsPublished (string_bytes place.value.name)
+        (replay (S.changes place.value.folder.system place.value.folder.path) (S.start place.value.folder.path))
+        (IsStoreOf (ArePacked options.expected (all_documents options.framing
+        (inputs_of (F.holds files) (map (λ path. path.now) paths.now)))) (λ _. Unit {0}) shape.period)) }
+{
+    let mut place = output_place(rt, system, output, paths)?;
+    let mut packing = packed_inputs(rt, files, paths, options);
+    let outcome = place.publish(rt.alloc(), shape, &mut packing);
+    let outcome = named(rt.alloc(), output.path, paths, outcome);
+    end_output(rt, output.path, outcome, &packing.progress.line)?;
+    Ok(place)
 }
 
 /// Writes the store.
-pub fn run<S: SystemFiles>(
+pub fn run<S: SystemFiles, F: InputFiles + Drop>(
     rt: &HostRuntime,
     system: S,
+    files: F,
     matches: &ArgMatches<'_>,
 ) -> Result<(), Failure> {
     let alloc = rt.alloc();
@@ -319,7 +164,8 @@ pub fn run<S: SystemFiles>(
     let shape = shape_of(alloc, matches)?;
     let list = list_of(rt, matches)?;
     let words = words_of(matches).unwrap_or(unnamed_words(list.is_some()));
-    let names = with_file(alloc, output.path, names_of(alloc, words, list.as_deref()))?;
-    let mut packing = Packing::of_files(rt, output.path, &names, options);
-    pack(rt, system, output, shape, &mut packing)
+    let names = names_of(alloc, matches, words, list.as_deref());
+    let names = with_file(alloc, output.path, names)?;
+    drop(pack(rt, system, files, output, shape, &names, options)?);
+    Ok(())
 }

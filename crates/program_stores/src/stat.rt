@@ -9,6 +9,7 @@ use program_base::findings::Findings;
 use program_base::store_file::StorePath;
 use std::alloc::{AllocError, Global};
 use store_commands::store_numbers::{StoreNumbers, numbers_in};
+use store_files::SystemFiles;
 
 const EXAMPLE: &str = "\
 For several stores the numbers are in a table, with a line for each store.
@@ -38,14 +39,23 @@ pub fn command<'a>(alloc: Global) -> Result<Command<'a>, AllocError> {
 }
 
 // The numbers of a store.
-fn numbers_at(rt: &HostRuntime, store: StorePath<'_>) -> Result<StoreNumbers, FailureCause> {
-    let reader = store.reader(rt)?;
-    Ok(numbers_in(rt.alloc(), &*reader)?)
+fn numbers_at<S: SystemFiles>(
+    alloc: Global,
+    system: &S,
+    store: StorePath<'_>,
+) -> Result<StoreNumbers, FailureCause> {
+    let reader = store.reader(alloc, system)?;
+    Ok(numbers_in(alloc, &*reader)?)
 }
 
 // Prints the numbers of a store, in lines, in a line of a table, or as JSON.
-fn print_store(rt: &HostRuntime, store: StorePath<'_>, form: StatForm) -> Result<(), FailureCause> {
-    let numbers = numbers_at(rt, store)?;
+fn print_store<S: SystemFiles>(
+    rt: &HostRuntime,
+    system: &S,
+    store: StorePath<'_>,
+    form: StatForm,
+) -> Result<(), FailureCause> {
+    let numbers = numbers_at(rt.alloc(), system, store)?;
     match form {
         StatForm::Lines => print_lines(rt, store.path, &numbers),
         StatForm::Table => print_row(rt, store.path, &numbers),
@@ -54,7 +64,11 @@ fn print_store(rt: &HostRuntime, store: StorePath<'_>, form: StatForm) -> Result
 }
 
 /// Prints the numbers of each store. It goes on after one that can't be read, and fails at the end.
-pub fn run(rt: &HostRuntime, matches: &ArgMatches<'_>) -> Result<(), Failure> {
+pub fn run<S: SystemFiles>(
+    rt: &HostRuntime,
+    system: &S,
+    matches: &ArgMatches<'_>,
+) -> Result<(), Failure> {
     let paths = matches.get_strs("FILE").unwrap_or(&[]);
     let is_tantivy = matches.get_flag("tantivy");
     let form = match matches.get_flag("json") {
@@ -68,7 +82,7 @@ pub fn run(rt: &HostRuntime, matches: &ArgMatches<'_>) -> Result<(), Failure> {
     let mut findings = Findings::new();
     for path in paths {
         let store = StorePath { path, is_tantivy };
-        if let Err(cause) = print_store(rt, store, form) {
+        if let Err(cause) = print_store(rt, system, store, form) {
             findings.add_failed(rt, path, cause)?;
         }
     }

@@ -9,6 +9,7 @@ use program_base::store_check::{BLIND_SPOT, Verifying};
 use program_base::store_file::StorePath;
 use program_base::verify_output::ReportForm;
 use std::alloc::{AllocError, Global};
+use store_files::SystemFiles;
 
 const EXAMPLE: &str = "\
 Checks the footer, the index, that the blocks cover the data, the table of each block, and the place of each document.
@@ -51,12 +52,13 @@ pub fn command<'a>(alloc: Global) -> Result<Command<'a>, AllocError> {
 }
 
 // Prints what is found in a store, and returns whether it is sound.
-fn verify(
+fn verify<S: SystemFiles>(
     rt: &HostRuntime,
+    system: &S,
     verifying: &Verifying,
     store: StorePath<'_>,
 ) -> Result<bool, FailureCause> {
-    let found = verifying.look_at(rt, store)?;
+    let found = verifying.look_at(rt, system, store)?;
     let is_sound = found.is_sound();
     if !(is_sound && verifying.is_quiet) {
         found.print(rt, store.path, verifying.form)?;
@@ -65,8 +67,9 @@ fn verify(
 }
 
 // Prints what is found in each store, and returns what that is.
-fn verify_all(
+fn verify_all<S: SystemFiles>(
     rt: &HostRuntime,
+    system: &S,
     verifying: &Verifying,
     paths: &[&str],
 ) -> Result<Findings, Failure> {
@@ -76,7 +79,7 @@ fn verify_all(
             path,
             is_tantivy: verifying.is_tantivy,
         };
-        match verify(rt, verifying, store) {
+        match verify(rt, system, verifying, store) {
             Ok(is_sound) => findings.add_read(is_sound),
             Err(cause) => findings.add_failed(rt, path, cause)?,
         }
@@ -99,13 +102,18 @@ fn form_of(rt: &HostRuntime, matches: &ArgMatches<'_>) -> Result<ReportForm, Fai
 }
 
 /// Prints the line of each store. It goes on after one that can't be read, and fails at the end.
-pub fn run(rt: &HostRuntime, matches: &ArgMatches<'_>) -> Result<(), Failure> {
+pub fn run<S: SystemFiles>(
+    rt: &HostRuntime,
+    system: &S,
+    matches: &ArgMatches<'_>,
+) -> Result<(), Failure> {
     let verifying = Verifying {
         form: form_of(rt, matches)?,
         is_tantivy: matches.get_flag("tantivy"),
         is_quiet: matches.get_flag("quiet"),
     };
-    let findings = verify_all(rt, &verifying, matches.get_strs("FILE").unwrap_or(&[]))?;
+    let paths = matches.get_strs("FILE").unwrap_or(&[]);
+    let findings = verify_all(rt, system, &verifying, paths)?;
     if findings.has_read() && verifying.form.has_note() && !verifying.is_quiet {
         let _ = eprintln!(rt; "{BLIND_SPOT}");
     }

@@ -207,7 +207,11 @@ impl<S: SystemFiles> DiskFolder<S> {
     }
 
     /// The path of the file of this name.
-    pub(crate) fn path_at(&self, name: &str) -> io::Result<String>
+    ///
+    /// # Errors
+    ///
+    /// `InvalidInput` for what is no name of a file in a folder, and for that of the lock.
+    pub fn path_at(&self, name: &str) -> io::Result<String>
         ensures kind { IfErr result (λ e. error_kind e ≢ ErrorKind.NotFound) }
         ensures path { IfOk result (λ path. IsPath self.now.path name.now (string_bytes path)) }
     {

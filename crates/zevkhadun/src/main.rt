@@ -11,6 +11,7 @@ ghost use Rattle.std.specs.Prelude.{◌≡◌, ℕ, List, [], IsTrue};
 
 use clap::{ArgMatches, Error};
 use descriptors::hold_closed;
+use document_framing::{HostInputs, InputFiles};
 use program_base::arguments::wrong_words;
 use program_base::failure::{Failure, FailureCause};
 use program_stores::{append, cat, export, get, inspect, merge, pack, stat, verify};
@@ -18,23 +19,28 @@ use std::process::ExitCode;
 use store_files::{HostFiles, SystemFiles};
 
 // Does what the words ask. A subcommand and the arguments that it requires are there, since clap has seen to it.
-fn run<S: SystemFiles>(rt: &HostRuntime, system: S, matches: &ArgMatches<'_>) -> Result<(), Failure>
+fn run<S: SystemFiles, F: InputFiles + Drop>(
+    rt: &HostRuntime,
+    system: S,
+    files: F,
+    matches: &ArgMatches<'_>,
+) -> Result<(), Failure>
     requires unchanged { IsTrue S.honest → (d : List ℕ) → S.changes system d ≡ [] }
 {
     let Some((name, matches)) = matches.subcommand() else {
         return Ok(());
     };
     match name {
-        "pack" => pack::run(rt, system, matches),
-        "append" => append::run(rt, system, matches),
-        "get" => get::run(rt, matches),
-        "cat" => cat::run(rt, matches),
-        "stat" => stat::run(rt, matches),
-        "verify" => verify::run(rt, matches),
+        "pack" => pack::run(rt, system, files, matches),
+        "append" => append::run(rt, system, files, matches),
+        "get" => get::run(rt, &system, matches),
+        "cat" => cat::run(rt, &system, matches),
+        "stat" => stat::run(rt, &system, matches),
+        "verify" => verify::run(rt, &system, matches),
         "merge" => merge::run(rt, system, matches),
         "export" => export::run(rt, system, matches),
         "inspect" => inspect::run(rt, system, matches),
-        "log" => program_logs::run(rt, system, matches),
+        "log" => program_logs::run(rt, system, files, matches),
         _ => Err(wrong_words(rt.alloc(), "unknown command", name)),
     }
 }
@@ -59,7 +65,7 @@ fn end_words(rt: &HostRuntime, error: &Error) -> ExitCode {
 
 // Does what the words ask, over the files of the operating system.
 fn run_on_host(rt: &HostRuntime, matches: &ArgMatches<'_>) -> Result<(), Failure> {
-    run(rt, HostFiles::new(rt)?, matches)
+    run(rt, HostFiles::new(rt)?, HostInputs { rt }, matches)
 }
 
 // Does what the words that were given ask.

@@ -1,0 +1,4 @@
+pub mod FeedLemmas
+pub mod LawLemmas
+pub mod LengthLemmas
+pub mod PieceLemmas

@@ -1,0 +1,4 @@
+pub mod AppendLemmas
+pub mod FeedLemmas
+pub mod PrintLemmas
+pub mod ReadLemmas

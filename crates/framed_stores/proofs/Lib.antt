@@ -1,0 +1,3 @@
+pub mod PrintLemmas
+pub mod RangeLemmas
+pub mod RoundTripLemmas

@@ -1,0 +1,2 @@
+pub mod StoresOnDisk
+pub mod WordLists

@@ -1,0 +1,10 @@
+//! Documents of inputs in memory, which are packed over a system in memory and printed again.
+#![tactic(auto)]
+
+mod inputs;
+mod passing;
+#[cfg(test)]
+mod tests;
+
+pub use inputs::MemInputs;
+pub use passing::passed;
