@@ -140,7 +140,9 @@ def function_at(file: str, text: str, number: int) -> str:
     path = [function[1]]
     while indent(lines[at]) and (above := opening(lines, at, HOLDER)):
         at, holder = above
-        path.insert(0, holder_name(holder[1], holder[2]))
+        # A long head goes on below.
+        head = " ".join([holder[2], *map(str.strip, lines[at + 1:at + 4])])
+        path.insert(0, holder_name(holder[1], head))
         if holder[1] == "impl":
             return "::".join(path)
     module = file[len("src/"):-len(".rt")].split("/")

@@ -33,6 +33,13 @@ impl<T: Drop> From<Failed<T>> for Fault {
     }
 }
 
+impl<'p, F: Files + Drop, P: Progress + Drop> Filling
+    for Appended<'p, F, P> {
+    fn fill(&mut self) -> u8 {
+        self.copied + 1
+    }
+}
+
 impl<P: Pages> Pages for &mut P {
     fn next_page(&mut self) -> u8 {
         Pages::next_page(&mut **self)
@@ -92,6 +99,7 @@ class Words(unittest.TestCase):
             ("        None", "ItemsWalkIterator::next"), ("        Fault", "FaultFromFailed::from"),
             ("            note(byte);", "Page::title"), ("        first();", "pages::page::inner::second"),
             ("        Pages::next_page(&mut **self)", "RefMutPages::next_page"),
+            ("        self.copied + 1", "AppendedFilling::fill"),
         ):
             with self.subTest(line):
                 self.assertEqual(function_at("src/pages/page.rt", SOURCE, lines.index(line)), name)
