@@ -13,11 +13,12 @@ CALLS = {
     "pack": "pack",
     "append": "append",
     "merge": "merge",
-    "get": "printer.print_all",
+    "get": "print_named",
     "cat": "printing.print",
+    "export": "export",
     "log append": "append_inputs",
     "log get": "print_records",
-    "log cat": "print_records",
+    "log cat": "print",
 }
 FUNCTION = re.compile(r"^( *)(?:pub )?fn (\w+).*?^\1\}", re.M | re.S)
 

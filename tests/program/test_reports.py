@@ -12,13 +12,13 @@ NOBODY = 65534
 class Stat(ProgramCase):
     def test_counts_are_lines(self):
         self.pack("a.store", NUMBERS)
-        self.program.prints("documents +20000", "stat", "a.store")
+        self.program.prints("documents +20,000$", "stat", "a.store")
 
     def test_bytes_are_those_of_the_file_and_of_the_documents(self):
         size = len(self.pack("a.store", NUMBERS, "--block-size", "1000"))
         documents = len(NUMBERS) - 20_000
         for pattern in (
-            f"file bytes +{size}$", f"document bytes +{documents}$", f"other bytes +{size - documents}$",
+            f"file bytes +{size:,}$", f"document bytes +{documents:,}$", f"other bytes +{size - documents:,}$",
             f"mean document +{documents * 10 // 20_000 / 10}$",
         ):
             self.program.prints(pattern, "stat", "a.store")
@@ -83,7 +83,7 @@ class SeveralStores(ProgramCase):
         return {"user": NOBODY, "group": NOBODY, "extra_groups": []} if os.geteuid() == 0 else {}
 
     def test_a_missing_file_ends_with_3_after_the_others(self):
-        for command, wanted in (("stat", "20000"), ("verify", "a.store: sound: 20000 documents")):
+        for command, wanted in (("stat", "20,000"), ("verify", "a.store: sound: 20000 documents")):
             with self.subTest(command):
                 status, lines, errors = self.run_over(command, "gone", "a.store")
                 self.assertEqual(status, 3, errors)

@@ -22,7 +22,7 @@ class Shape(ProgramCase):
     def test_a_wrong_block_size_is_refused(self):
         for word in ("K", "1X"):
             with self.subTest(word):
-                self.program.fails(2, f"invalid block size: '{word}'", "pack", "--block-size", word, "a.store")
+                self.program.fails(2, f"invalid size: '{word}'", "pack", "--block-size", word, "a.store")
                 self.assertEqual(self.names(), [])
 
     def test_a_period_out_of_range_is_refused(self):

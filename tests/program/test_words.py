@@ -34,12 +34,14 @@ class Words(ProgramCase):
         said = self.program.gives("--version").decode()
         self.assertEqual(said, f"zevkhadun {version} (writes format 3, reads formats 1 to 3)\n")
 
-    def test_wrong_words_end_with_2(self):
+    def test_wrong_words_end_with_2_and_one_line(self):
         for words in WRONG:
             with self.subTest(words):
                 done = self.program.run(*words.split())
                 self.assertEqual((done.returncode, done.stdout), (2, b""), done.stderr)
-                self.assertTrue(done.stderr, "there is no message")
+                if words:
+                    self.assertEqual(done.stderr.count(b"\n"), 1, done.stderr)
+                    self.assertTrue(done.stderr.startswith(b"zevkhadun: "), done.stderr)
 
     def test_of_an_option_that_is_given_twice_the_last_one_counts(self):
         self.pack("a.store", b"a\0b\0c\0", "--framing", "lines", "--framing", "nul", "-qq")

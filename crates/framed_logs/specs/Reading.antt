@@ -1,5 +1,5 @@
 -- Records of a log that are read and written to an output.
-use Rattle.std.specs.Prelude.{◌≡◌, ℕ, ◌+◌, List, [], ◌∷◌, ◌++◌, length, Option, Some}
+use Rattle.std.specs.Prelude.{◌≡◌, ℕ, ◌+◌, ◌-◌, max, List, [], ◌∷◌, ◌++◌, length, Option, Some}
 use Rattle.std.specs.Io.KnownBytes.{Appends}
 use Rattle.document_framing.specs.declared.form.DocumentForm.{DocumentForm}
 use Rattle.document_framing.specs.Forms.{shown}
@@ -41,3 +41,7 @@ pub record PrintsRecords (form : DocumentForm) (first : ℕ) (all : List Slot) (
   pub many : length records ≡ count
   pub has : HasFrom first all from records
   pub printed : Appends old new (shown_from form from records)
+
+-- An output has exactly the records of a log more whose numbers are not below this one.
+abbrev pub PrintsFrom : DocumentForm → ℕ → List Slot → ℕ → Option (List ℕ) → Option (List ℕ) → Type 0
+PrintsFrom form first all from = PrintsRecords form first all (max from first) (first + length all - max from first)

@@ -72,12 +72,12 @@ shown_framed framing n (x ∷ xs) (d ∷ ds) e =
 
 -- what is printed of slots that were packed
 pub printed_packed : (framing : Framing) (expected : Option ℕ) (known : Option (List (List ℕ))) (all : List Slot) (spans : List IdSpan) (old new : Option (List ℕ))
-    → ArePacked expected known all → ((id : ℕ) → is_among spans id ≡ false) → PrintsSlots (Framed framing) (numbered all (kept_by spans)) old new
+    → ArePacked None expected known all → ((id : ℕ) → is_among spans id ≡ false) → PrintsSlots (Framed framing) (numbered all (kept_by spans)) old new
     → IfSome known (λ documents. Appends old new (framed framing documents))
 printed_packed framing expected known all spans old new packed none printed = at known packed.are_all.all
   where
     same : shown_each (Framed framing) printed.documents ≡ framed framing packed.documents
-    same = shown_framed framing 0 printed.documents packed.documents (printed.are ∙ all_numbered spans all none ∙ ap (enumerate_from 0) packed.are)
+    same = shown_framed framing 0 printed.documents packed.documents (printed.are ∙ all_numbered spans all none ∙ ap (enumerate_from 0) (packed.are tt))
 
     at : (known : Option (List (List ℕ))) → IfSome known (λ known. packed.documents ≡ known)
         → IfSome known (λ documents. Appends old new (framed framing documents))

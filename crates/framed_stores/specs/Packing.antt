@@ -1,5 +1,5 @@
 -- Documents of inputs that are put into a store.
-use Rattle.std.specs.Prelude.{◌≡◌, ℕ, List, [], ◌++◌, length, map, IsTrue, Option, Some, IfSome, refl}
+use Rattle.std.specs.Prelude.{◌≡◌, ℕ, List, [], ◌++◌, length, map, IsTrue, Option, None, Some, IfSome, refl}
 use Rattle.std.proofs.Common.{sym, append-nil}
 use Rattle.docstore.specs.Laws.{taken}
 use Rattle.docstore.specs.Writer.{Writing}
@@ -19,18 +19,20 @@ pub record AddsAll (expected : Option ℕ) (known : Option (List (List ℕ))) (o
   pub added : AddsDocuments documents old new
   pub are_all : AreAll expected known documents
 
--- The slots are those of all documents of inputs.
-pub record ArePacked (expected : Option ℕ) (known : Option (List (List ℕ))) (slots : List Slot) : Type 0 where
-  pub documents : List (List ℕ)
-  pub are : slots ≡ map doc documents
-  pub are_all : AreAll expected known documents
+-- the slots of a store, if there is one
+abbrev pub slots_before : Option Reading → List Slot
+slots_before None = []
+slots_before (Some reader) = slots (store_of reader)
 
--- The slots are those of a store, if its file is honest, and then those of all documents of inputs.
-pub record AreAppended (store : Option Reading) (expected : Option ℕ) (known : Option (List (List ℕ))) (all : List Slot) : Type 0 where
-  pub reader : Reading
-  pub is : store ≡ Some reader
+-- Its file is honest, if there is one.
+abbrev pub IsHonest : Option Reading → Type 0
+IsHonest None = Unit {0}
+IsHonest (Some reader) = IsTrue reader.file.honest
+
+-- The slots are those of a store, if there is one and its file is honest, and then those of all documents of inputs.
+pub record ArePacked (store : Option Reading) (expected : Option ℕ) (known : Option (List (List ℕ))) (all : List Slot) : Type 0 where
   pub documents : List (List ℕ)
-  pub are : IsTrue reader.file.honest → all ≡ slots (store_of reader) ++ map doc documents
+  pub are : IsHonest store → all ≡ slots_before store ++ map doc documents
   pub are_all : AreAll expected known documents
 
 -- no document was put after those of a writer

@@ -1,20 +1,24 @@
-//! Fills a store with the documents of inputs.
+//! Fills a store with those of another one, if there is one, and the documents of inputs.
 
 ghost use Rattle.std.specs.Prelude.{◌≡◌, length, map, IfSome, OnOk};
 ghost use Rattle.document_framing.specs.Feeding.{all_documents};
 ghost use Rattle.document_framing.specs.Inputs.{inputs_of};
 ghost use Rattle.framed_stores.specs.Packing.{AddsAll};
 
-use docstore::{StoreError, StoreWriter, TerminatingWrite, laws};
+use docstore::{FileHandle, StoreError, StoreReader, StoreWriter, TerminatingWrite, laws};
 use document_framing::{
     DocumentSink, FeedError, FeedProgress, Framing, InputFault, InputFiles, feed_inputs,
 };
 use std::alloc::Global;
+use store_commands::copied_store::copy_store;
+use store_commands::merging::MergeFailure;
 use store_published::{Filling, store_document};
 
-/// Why not all documents of inputs came into a store.
+/// Why not all documents came into a store.
 #[derive(Drop)]
-pub enum PackError {
+pub enum PackError<H: FileHandle> {
+    /// The store before them was not copied.
+    Copy(MergeFailure<H>),
     /// An input was not opened or read.
     Input(InputFault),
     /// The store took no further document.
@@ -23,8 +27,8 @@ pub enum PackError {
     OtherCount { expected: u64, came: u64 },
 }
 
-impl From<FeedError<InputFault, StoreError>> for PackError {
-    fn from(error: FeedError<InputFault, StoreError>) -> PackError {
+impl<H: FileHandle> From<FeedError<InputFault, StoreError>> for PackError<H> {
+    fn from(error: FeedError<InputFault, StoreError>) -> PackError<H> {
         match error {
             FeedError::Input(fault) => PackError::Input(fault),
             FeedError::Sink(error) => PackError::Store(error),
@@ -71,14 +75,19 @@ impl<'w, 'p, W: TerminatingWrite, P: FeedProgress> DocumentSink for StoredDocume
     ) };
 }
 
-/// The documents of inputs, as what fills a store; `-` names the standard input.
+/// The documents of a store, if there is one, and then those of inputs, as what fills a new one; `-` names the standard
+/// input.
 #[derive(Drop)]
-pub struct PackedInputs<'p, 'w, F: InputFiles + Drop, P: FeedProgress + Drop> {
+pub struct PackedInputs<'p, 'w, H: FileHandle, F: InputFiles + Drop, P: FeedProgress + Drop> {
     pub alloc: Global,
+    /// The store, until it is copied.
+    pub store: Option<StoreReader<H>>,
+    /// How many bytes of it are in memory at a time.
+    pub part_bytes: usize,
     pub framing: Framing,
     pub files: F,
     pub paths: &'p [&'w str],
-    /// How many documents have to come, if that is said.
+    /// How many documents of the inputs have to come, if that is said.
     pub expected: Option<u64>,
     pub progress: P,
 }
@@ -91,19 +100,16 @@ fn store_inputs<F: InputFiles, P: FeedProgress, W: TerminatingWrite>(
     paths: &[&str],
     progress: &mut P,
     writer: &mut StoreWriter<W>,
-) -> Result<(), PackError>
+) -> Result<(), FeedError<InputFault, StoreError>>
     ensures { OnOk result (AddsAll None (all_documents framing
         (inputs_of (F.holds files.old) (map (λ path. path.now) paths.now))) writer.old writer.new) }
 {
     let mut sink = StoredDocuments { writer, progress };
-    match feed_inputs(alloc, framing, files, paths, &mut sink) {
-        Ok(()) => Ok(()),
-        Err(error) => Err(PackError::from(error)),
-    }
+    feed_inputs(alloc, framing, files, paths, &mut sink)
 }
 
 // Fails if another number of documents came than was expected.
-fn check_count(expected: Option<u64>, came: u64) -> Result<(), PackError>
+fn check_count<H: FileHandle>(expected: Option<u64>, came: u64) -> Result<(), PackError<H>>
     ensures { OnOk result (IfSome expected (λ n. came ≡ n)) }
 {
     match expected {
@@ -112,16 +118,18 @@ fn check_count(expected: Option<u64>, came: u64) -> Result<(), PackError>
     }
 }
 
-impl<'p, 'w, F: InputFiles + Drop, P: FeedProgress + Drop> PackedInputs<'p, 'w, F, P> {
-    /// Puts the documents after those of a writer. An Ok says that all came, and as many as were expected.
-    ///
-    /// # Errors
-    ///
-    /// See `PackError`. The writer has the documents that came before.
-    pub fn store<W: TerminatingWrite>(
+impl<'p, 'w, H: FileHandle, F: InputFiles + Drop, P: FeedProgress + Drop> PackedInputs<
+    'p,
+    'w,
+    H,
+    F,
+    P,
+> {
+    // Puts the documents of the inputs after those of a writer. An Ok says that all came, and as many as were expected.
+    fn store_inputs<W: TerminatingWrite>(
         &mut self,
         writer: &mut StoreWriter<W>,
-    ) -> Result<(), PackError>
+    ) -> Result<(), PackError<H>>
         ensures { OnOk result (AddsAll self.old.expected (all_documents self.old.framing
             (inputs_of (F.holds self.old.files) (map (λ path. path.now) self.old.paths.now))) writer.old writer.new) }
     {
@@ -140,19 +148,28 @@ impl<'p, 'w, F: InputFiles + Drop, P: FeedProgress + Drop> PackedInputs<'p, 'w, 
     }
 }
 
-/// It brings exactly the documents of the inputs, in order.
-impl<'p, 'w, F: InputFiles + Drop, P: FeedProgress + Drop> Filling for PackedInputs<'p, 'w, F, P> {
+/// It brings the slots of the store, and then exactly the documents of the inputs, in order.
+impl<'p, 'w, H: FileHandle, F: InputFiles + Drop, P: FeedProgress + Drop> Filling
+    for PackedInputs<'p, 'w, H, F, P> {
     ghost use Rattle.std.specs.Prelude.{map};
     ghost use Rattle.document_framing.specs.Feeding.{all_documents};
     ghost use Rattle.document_framing.specs.Inputs.{inputs_of};
     ghost use Rattle.framed_stores.specs.Packing.{ArePacked};
 
-    type Error = PackError;
+    type Error = PackError<H>;
 
-    ghost brings = { λ old new slots. ArePacked old.expected (all_documents old.framing
+    ghost brings = { λ old new slots. ArePacked old.store old.expected (all_documents old.framing
         (inputs_of (F.holds old.files) (map (λ path. path.now) old.paths.now))) slots };
 
-    fn fill<W: TerminatingWrite>(&mut self, writer: &mut StoreWriter<W>) -> Result<(), PackError> {
-        self.store(writer)
+    fn fill<W: TerminatingWrite>(
+        &mut self,
+        writer: &mut StoreWriter<W>,
+    ) -> Result<(), PackError<H>> {
+        if let Some(store) = self.store.take() {
+            if let Err(failure) = copy_store(self.alloc, writer, store, self.part_bytes) {
+                return Err(PackError::Copy(failure));
+            }
+        }
+        self.store_inputs(writer)
     }
 }

@@ -2,7 +2,7 @@
 
 use crate::byte_size::parse_size;
 use crate::command_words::Argument;
-use crate::failure::{Failure, FailureCause};
+use crate::failure::FailureCause;
 use clap::ArgMatches;
 use document_framing::Framing;
 use document_framing::framing::{FRAMING_HELP, FRAMINGS};
@@ -14,6 +14,9 @@ const OUTPUT: &str = "OUT";
 
 /// The name of the argument for the file that is read.
 const INPUT_FILE: &str = "FILE";
+
+/// The name of the option for the block size.
+const BLOCK_SIZE: &str = "block-size";
 
 /// The store that is read.
 pub fn input<'a>() -> Argument<'a> {
@@ -82,7 +85,7 @@ pub fn framing<'a>() -> Argument<'a> {
 /// The block size.
 pub fn block_size<'a>() -> Argument<'a> {
     Argument::OptionOr {
-        id: "block-size",
+        id: BLOCK_SIZE,
         value: "BYTES",
         default: "16K",
         help: "Write a block once its documents plus 8 bytes each exceed BYTES; suffixes K, M, G (powers of 1024)",
@@ -95,7 +98,7 @@ fn or_wrong_words<T: Copy>(
     why: &str,
     word: &str,
     found: Option<T>,
-) -> Result<T, Failure> {
+) -> Result<T, FailureCause> {
     match found {
         Some(found) => Ok(found),
         None => Err(wrong_words(alloc, why, word)),
@@ -103,28 +106,45 @@ fn or_wrong_words<T: Copy>(
 }
 
 /// The word of an argument that is required or has a default.
-pub fn word<'a>(alloc: Global, matches: &ArgMatches<'a>, id: &str) -> Result<&'a str, Failure> {
+pub fn word<'a>(
+    alloc: Global,
+    matches: &ArgMatches<'a>,
+    id: &str,
+) -> Result<&'a str, FailureCause> {
     or_wrong_words(alloc, "missing argument", id, matches.get_str(id))
 }
 
 /// The name of the file that is read.
-pub fn input_path<'a>(alloc: Global, matches: &ArgMatches<'a>) -> Result<&'a str, Failure> {
+pub fn input_path<'a>(alloc: Global, matches: &ArgMatches<'a>) -> Result<&'a str, FailureCause> {
     word(alloc, matches, INPUT_FILE)
 }
 
 /// The name of the file that is written.
-pub fn output_path<'a>(alloc: Global, matches: &ArgMatches<'a>) -> Result<&'a str, Failure> {
+pub fn output_path<'a>(alloc: Global, matches: &ArgMatches<'a>) -> Result<&'a str, FailureCause> {
     word(alloc, matches, OUTPUT)
 }
 
+/// The size that an option gives, in bytes, if it is there or has a default.
+pub fn size_of(
+    alloc: Global,
+    matches: &ArgMatches<'_>,
+    id: &str,
+) -> Result<Option<usize>, FailureCause> {
+    let Some(size) = matches.get_str(id) else {
+        return Ok(None);
+    };
+    let bytes = or_wrong_words(alloc, "invalid size", size, parse_size(size))?;
+    Ok(Some(bytes))
+}
+
 /// The block size, in bytes.
-pub fn block_size_of(alloc: Global, matches: &ArgMatches<'_>) -> Result<usize, Failure> {
-    let size = word(alloc, matches, "block-size")?;
-    or_wrong_words(alloc, "invalid block size", size, parse_size(size))
+pub fn block_size_of(alloc: Global, matches: &ArgMatches<'_>) -> Result<usize, FailureCause> {
+    let size = size_of(alloc, matches, BLOCK_SIZE)?;
+    or_wrong_words(alloc, "missing argument", BLOCK_SIZE, size)
 }
 
 /// How the store is to be written.
-pub fn shape_of(alloc: Global, matches: &ArgMatches<'_>) -> Result<StoreShape, Failure> {
+pub fn shape_of(alloc: Global, matches: &ArgMatches<'_>) -> Result<StoreShape, FailureCause> {
     let block_size = block_size_of(alloc, matches)?;
     // There is a period: it has a default. No store has the period 0.
     let period = matches.get_one::<u8>("period").unwrap_or(0);
@@ -137,15 +157,15 @@ pub fn shape_of(alloc: Global, matches: &ArgMatches<'_>) -> Result<StoreShape, F
 }
 
 /// How documents are delimited.
-pub fn framing_of(alloc: Global, matches: &ArgMatches<'_>) -> Result<Framing, Failure> {
+pub fn framing_of(alloc: Global, matches: &ArgMatches<'_>) -> Result<Framing, FailureCause> {
     let name = word(alloc, matches, "framing")?;
     or_wrong_words(alloc, "unknown framing", name, Framing::from_name(name))
 }
 
 /// That a word is wrong, and why.
-pub fn wrong_words(alloc: Global, why: &str, word: &str) -> Failure {
+pub fn wrong_words(alloc: Global, why: &str, word: &str) -> FailureCause {
     match format!(in alloc; "{why}: '{word}'") {
-        Ok(text) => Failure::from(FailureCause::Words(text)),
-        Err(error) => Failure::from(error),
+        Ok(text) => FailureCause::Words(text),
+        Err(error) => FailureCause::from(error),
     }
 }

@@ -1,4 +1,4 @@
-//! Sizes as words.
+//! Sizes and other numbers as words.
 
 use std::fmt;
 
@@ -53,5 +53,32 @@ impl fmt::Display for ShortSize {
     fn fmt<W: fmt::Write>(&self, f: &mut fmt::Formatter<W>) -> fmt::Result {
         let (whole, tenths, unit) = self.parts();
         write!(f, "{whole}{tenths} {unit}")
+    }
+}
+
+/// A number with a comma before each group of three digits but the first one.
+#[derive(Clone, Copy)]
+pub struct Grouped(pub u64);
+
+// The greatest power of a thousand that a u64 can hold.
+const GREATEST_GROUP: u64 = 1_000_000_000_000_000_000;
+
+impl fmt::Display for Grouped {
+    fn fmt<W: fmt::Write>(&self, f: &mut fmt::Formatter<W>) -> fmt::Result {
+        let Grouped(number) = *self;
+        let mut unit = GREATEST_GROUP;
+        for _ in 0..6 {
+            let rest = number.checked_div(unit).unwrap_or(0);
+            if rest >= 1000 {
+                write!(f, "{:03},", rest % 1000)?;
+            } else if rest > 0 {
+                write!(f, "{rest},")?;
+            }
+            unit /= 1000;
+        }
+        match number < 1000 {
+            true => write!(f, "{number}"),
+            false => write!(f, "{:03}", number % 1000),
+        }
     }
 }

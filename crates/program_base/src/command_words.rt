@@ -61,8 +61,8 @@ pub enum Argument<'a> {
         value: &'a str,
         help: &'a str,
     },
-    /// An option that has to be there.
-    RequiredOption {
+    /// An option for a number below 2^64, which has to be there.
+    RequiredNumber {
         id: &'a str,
         value: &'a str,
         help: &'a str,
@@ -127,7 +127,7 @@ impl<'a> Argument<'a> {
             | Argument::FlagAgainst { id, help, .. }
             | Argument::ExplainedFlag { id, help, .. } => (id, help, id),
             Argument::Option { id, value, help }
-            | Argument::RequiredOption { id, value, help }
+            | Argument::RequiredNumber { id, value, help }
             | Argument::OptionAgainst {
                 id,
                 value,
@@ -184,7 +184,7 @@ impl<'a> Argument<'a> {
             Argument::Word { .. }
                 | Argument::Words { .. }
                 | Argument::RequiredFlag { .. }
-                | Argument::RequiredOption { .. }
+                | Argument::RequiredNumber { .. }
         )
     }
 
@@ -210,9 +210,8 @@ impl<'a> Argument<'a> {
             _ => arg,
         };
         let arg = match self {
-            Argument::Number { .. } | Argument::NumberOr { .. } => {
-                arg.value_parser(value_parser!(u64))
-            }
+            Argument::Number { .. } | Argument::NumberOr { .. } | Argument::RequiredNumber { .. } =>
+                arg.value_parser(value_parser!(u64)),
             Argument::ChoiceOr { choices, .. } => arg.value_parser(choices),
             Argument::Period => arg.value_parser(value_parser!(u8).range(2..=64)),
             _ => arg,

@@ -2,7 +2,7 @@
 
 use crate::arguments::{framing_of, wrong_words};
 use crate::command_words::Argument;
-use crate::failure::Failure;
+use crate::failure::FailureCause;
 use clap::ArgMatches;
 use document_framing::{DocumentForm, Framing};
 use std::alloc::Global;
@@ -39,7 +39,7 @@ pub fn json<'a>() -> Argument<'a> {
 }
 
 /// How the words say that documents are printed.
-pub fn form_of(alloc: Global, matches: &ArgMatches<'_>) -> Result<DocumentForm, Failure> {
+pub fn form_of(alloc: Global, matches: &ArgMatches<'_>) -> Result<DocumentForm, FailureCause> {
     let framing = framing_of(alloc, matches)?;
     if matches.get_flag("json") {
         return Ok(DocumentForm::Json);

@@ -21,32 +21,35 @@ impl Findings {
         }
     }
 
-    /// Adds a store that was read, and is sound or broken.
-    pub fn add_read(&mut self, is_sound: bool) {
-        self.has_read = true;
-        self.has_broken |= !is_sound;
-    }
-
     /// Whether any store was read.
     pub fn has_read(self) -> bool {
         self.has_read
     }
 
-    /// Adds a store of which this is the status.
-    pub fn add(&mut self, status: Status) {
+    // Adds one of which this is the status.
+    fn add(&mut self, status: Status) {
         match status {
             Status::Broken => self.has_broken = true,
             Status::Usage | Status::System => self.has_unread = true,
         }
     }
 
-    /// Reports why a store can't be read, and goes on. An error of the standard output ends the command.
-    pub fn add_failed(
+    /// Adds a store or a log, and whether it is sound; or reports why it can't be read, and goes on. An error of the
+    /// standard output ends the command.
+    pub fn add_outcome(
         &mut self,
         rt: &HostRuntime,
         path: &str,
-        cause: FailureCause,
+        outcome: Result<bool, FailureCause>,
     ) -> Result<(), Failure> {
+        let cause = match outcome {
+            Ok(is_sound) => {
+                self.has_read = true;
+                self.has_broken |= !is_sound;
+                return Ok(());
+            }
+            Err(cause) => cause,
+        };
         let failure = Failure::at_file(rt.alloc(), path, cause);
         if failure.is_of_output() {
             return Err(failure);

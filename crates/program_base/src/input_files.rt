@@ -10,16 +10,13 @@ use std::alloc::{AllocError, Global};
 use std::fs;
 use std::io::IsTerminal;
 
-// The word that stands for the standard input.
-const STANDARD_INPUT_WORDS: &[&str] = &[STANDARD_INPUT];
-
-// No words.
-const NO_WORDS: &[&str] = &[];
+/// The name of the argument for files.
+pub const INPUT: &str = "INPUT";
 
 /// The argument for files.
 pub fn inputs<'a>() -> Argument<'a> {
     Argument::OptionalWords {
-        id: "INPUT",
+        id: INPUT,
         help: "Input files; '-' or no file means standard input",
     }
 }
@@ -42,28 +39,6 @@ pub fn null<'a>() -> Argument<'a> {
     }
 }
 
-/// The text of the list of files, if the words name one.
-pub fn list_of(rt: &HostRuntime, matches: &ArgMatches<'_>) -> Result<Option<String>, Failure> {
-    match matches.get_str("files-from") {
-        Some(path) => Ok(Some(text_in(rt, path)?)),
-        None => Ok(None),
-    }
-}
-
-/// The words that name files, if there are any.
-pub fn words_of<'m, 'a>(matches: &'m ArgMatches<'a>) -> Option<&'m [&'a str]> {
-    matches.get_strs("INPUT")
-}
-
-/// The words that count where none name files: that for the standard input, unless a list of files names some.
-pub fn unnamed_words(has_list: bool) -> &'static [&'static str] {
-    if has_list {
-        NO_WORDS
-    } else {
-        STANDARD_INPUT_WORDS
-    }
-}
-
 // Adds the names that end with bytes 0 and are not empty.
 fn add_ended<'t>(names: &mut Vec<&'t str>, list: &'t str) -> Result<(), AllocError> {
     for name in list.split('\0') {
@@ -74,20 +49,43 @@ fn add_ended<'t>(names: &mut Vec<&'t str>, list: &'t str) -> Result<(), AllocErr
     Ok(())
 }
 
-/// The names of the files: those of the words, and then those of a list, if there is one.
-pub fn names_of<'t>(
-    alloc: Global,
-    matches: &ArgMatches<'_>,
-    words: &[&'t str],
-    list: Option<&'t str>,
-) -> Result<Vec<&'t str>, AllocError> {
-    let mut names = Vec::from_slice(alloc, words)?;
-    let list = list.unwrap_or("");
-    match matches.get_flag("null") {
-        true => add_ended(&mut names, list)?,
-        false => add_lines(&mut names, list)?,
+/// The list of further input files, if the words name one.
+#[derive(Drop)]
+pub struct InputList {
+    text: Option<String>,
+    is_null_ended: bool,
+}
+
+impl InputList {
+    /// Reads it.
+    pub fn read(rt: &HostRuntime, matches: &ArgMatches<'_>) -> Result<InputList, Failure> {
+        let text = match matches.get_str("files-from") {
+            Some(path) => Some(text_in(rt, path)?),
+            None => None,
+        };
+        let is_null_ended = matches.get_flag("null");
+        Ok(InputList {
+            text,
+            is_null_ended,
+        })
     }
-    Ok(names)
+
+    /// The names of the inputs: those that words name, and then those of the list. Without words and without a list,
+    /// that of the standard input.
+    pub fn paths<'t>(
+        &'t self,
+        alloc: Global,
+        words: &[&'t str],
+    ) -> Result<Vec<&'t str>, AllocError> {
+        let mut paths = Vec::from_slice(alloc, words)?;
+        match &self.text {
+            Some(list) if self.is_null_ended => add_ended(&mut paths, list.as_str())?,
+            Some(list) => add_lines(&mut paths, list.as_str())?,
+            None if paths.is_empty() => paths.push(STANDARD_INPUT)?,
+            None => {}
+        }
+        Ok(paths)
+    }
 }
 
 /// The failure of an input, which is one of these paths.

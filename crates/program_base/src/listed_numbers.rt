@@ -16,6 +16,11 @@ fn unread_line(alloc: Global, number: u64, error: io::Error) -> FailureCause {
     }
 }
 
+/// Whether words are the one that says that numbers are in the standard input.
+pub fn is_listed(words: &[&str]) -> bool {
+    matches!(words, ["-"])
+}
+
 /// The words on the lines of an input, each a number or a range, or none.
 #[derive(Drop)]
 pub struct ListedNumbers<R: Read + Drop> {

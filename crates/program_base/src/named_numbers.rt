@@ -1,5 +1,6 @@
 //! Numbers that are printed with their names: in lines, or as an object of JSON.
 
+use crate::byte_size::Grouped;
 use crate::failure::{FailureCause, to_output};
 use serde_json::{Map, Value, put};
 use std::alloc::{AllocError, Global};
@@ -11,6 +12,7 @@ pub type NamedNumber = (&'static str, &'static str, u64);
 pub fn print_lines(rt: &HostRuntime, numbers: &[NamedNumber]) -> Result<(), FailureCause> {
     for named in numbers {
         let (name, _, number) = *named;
+        let number = Grouped(number);
         to_output(println!(rt; "  {name:<16}{number}"))?;
     }
     Ok(())
@@ -53,4 +55,19 @@ pub fn print_object(
 ) -> Result<(), FailureCause> {
     let object = object_of(rt.alloc(), key, path, numbers)?;
     to_output(println!(rt; "{object}"))
+}
+
+/// Prints a path and the numbers of what is there: in lines, or as an object of JSON, in which the path has this key.
+pub fn print_named(
+    rt: &HostRuntime,
+    key: &str,
+    path: &str,
+    numbers: &[NamedNumber],
+    is_json: bool,
+) -> Result<(), FailureCause> {
+    if is_json {
+        return print_object(rt, key, path, numbers);
+    }
+    to_output(println!(rt; "{path}"))?;
+    print_lines(rt, numbers)
 }

@@ -24,7 +24,10 @@ pub struct OutputPath<'a> {
 }
 
 /// The file that the words of a command name as its output.
-pub fn output_of<'a>(alloc: Global, matches: &ArgMatches<'a>) -> Result<OutputPath<'a>, Failure> {
+pub fn output_of<'a>(
+    alloc: Global,
+    matches: &ArgMatches<'a>,
+) -> Result<OutputPath<'a>, FailureCause> {
     Ok(OutputPath {
         path: output_path(alloc, matches)?,
         replaces: matches.get_flag("replace"),
@@ -39,7 +42,7 @@ fn plain_file_at(rt: &HostRuntime, path: &str) -> Option<(u64, u64)> {
 
 impl<'a> OutputPath<'a> {
     /// Refuses `-`, the standard output, by this text: an output takes its name at its end, so it has to be a file.
-    pub fn check_name(self, alloc: Global, refusal: &str) -> Result<(), Failure> {
+    pub fn check_name(self, alloc: Global, refusal: &str) -> Result<(), FailureCause> {
         if self.path == "-" {
             return Err(wrong_words(alloc, refusal, self.path));
         }

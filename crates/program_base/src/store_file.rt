@@ -9,7 +9,7 @@ ghost use Rattle.store_files.specs.Paths.{IsPath};
 ghost use Rattle.program_base.specs.StoresOnDisk.{HasStore, IsReaderOf};
 
 use crate::arguments::input_path;
-use crate::failure::{Failure, FailureCause};
+use crate::failure::FailureCause;
 use clap::ArgMatches;
 use docstore::{FileSlice, OpenError, StoreError, StoreReader};
 use std::alloc::{AllocFailed, Global};
@@ -174,7 +174,7 @@ pub fn reader_of<F: ReadAt>(alloc: Global, file: StoreFile<F>) -> Result<DiskRea
 pub fn store_path<'a>(
     rt: &HostRuntime,
     matches: &ArgMatches<'a>,
-) -> Result<StorePath<'a>, Failure> {
+) -> Result<StorePath<'a>, FailureCause> {
     Ok(StorePath {
         path: input_path(rt.alloc(), matches)?,
         is_tantivy: matches.get_flag("tantivy"),

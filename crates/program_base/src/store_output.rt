@@ -3,15 +3,17 @@
 ghost use Rattle.std.specs.Prelude.{◌≡◌, ℕ, List, IsTrue, IfOk, OnOk, IsOk, string_bytes};
 ghost use Rattle.store_files.specs.Disk.{replay};
 ghost use Rattle.store_published.specs.Filling.{IsStoreOf};
+ghost use Rattle.tantivy_export.specs.Exporting.{IsExportOf};
 ghost use Rattle.program_base.specs.StoresOnDisk.{IsPublished};
 
 use crate::failure::{Failure, FailureCause, with_file};
 use crate::output_path::OutputPath;
 use crate::progress::Progress;
+use docstore::{FileHandle, StoreError, StoreReader};
 use std::alloc::Global;
 use store_commands::StoreShape;
 use store_files::{DiskFolder, SystemFiles};
-use store_published::{FillError, Filling, Written, publish_store};
+use store_published::{FillError, Filling, Written, publish_export, publish_store};
 
 /// The folder of a file that is to be written, and the name of the file in it.
 #[derive(Drop)]
@@ -44,6 +46,27 @@ impl<S: SystemFiles> OutputPlace<S> {
             filling,
         )
     }
+
+    /// Publishes here the file that tantivy opens of the store of a reader, of which this many bytes are in memory at a
+    /// time.
+    pub fn export<H: FileHandle>(
+        &mut self,
+        alloc: Global,
+        reader: &mut StoreReader<H>,
+        part_bytes: usize,
+    ) -> Outcome<StoreError>
+        ensures exported { IsTrue S.honest → OnOk result (IsPublished (string_bytes self.new.name)
+            (replay (S.changes self.new.folder.system self.new.folder.path) (S.start self.new.folder.path))
+            (IsExportOf reader.old)) }
+    {
+        publish_export(
+            alloc,
+            &mut self.folder,
+            self.name.as_str(),
+            reader,
+            part_bytes,
+        )
+    }
 }
 
 /// The place of a store that is made of these inputs, of which none may be the output. It is in a box: a function that
@@ -60,10 +83,10 @@ pub fn output_place<S: SystemFiles>(
     Ok(Box::new(rt.alloc(), OutputPlace { folder, name })?)
 }
 
-// The failure of a store of this name that was not published.
-fn failure_of<E: Into<Failure> + Drop>(alloc: Global, path: &str, error: FillError<E>) -> Failure {
+// The failure of a store of this name that was not published. What fills it names its own.
+fn failure_of(alloc: Global, path: &str, error: FillError<Failure>) -> Failure {
     let cause = match error {
-        FillError::Filling(error) => return error.into(),
+        FillError::Filling(failure) => return failure,
         FillError::Folder(error) => FailureCause::of_output(error),
         FillError::Store(error) => FailureCause::Store(error),
     };
@@ -99,10 +122,10 @@ pub fn summarize(
 }
 
 /// Ends the progress of a store of this name that was filled. Prints a line on what it has, where progress is shown.
-pub fn end_output<E: Into<Failure> + Drop>(
+pub fn end_output(
     rt: &HostRuntime,
     path: &str,
-    outcome: Outcome<E>,
+    outcome: Outcome<Failure>,
     progress: &Progress<'_>,
 ) -> Result<(), Failure>
     ensures { OnOk result (IsOk outcome) }

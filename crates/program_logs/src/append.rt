@@ -1,24 +1,19 @@
 //! `log append`: puts records after those of a log.
 
-ghost use Rattle.std.specs.Prelude.{◌≡◌, ℕ, List, [], IsTrue};
-
 use crate::FOLDER;
 use crate::log_refusal::refused;
-use crate::opened_log::{OpenedLog, TailOptions};
-use crate::places::{open_or_begin, tail_bytes};
+use crate::logs::{Logs, TailOptions, WrittenLog, close};
+use crate::places::tail_bytes;
 use crate::record_span::RecordSpan;
 use crate::sync_policy::{policy_of, sync};
 use clap::{ArgMatches, Command};
 use document_framing::{Framing, InputFiles};
 use framed_logs::{AppendError, Appending, SyncPolicy, append_inputs};
-use program_base::arguments::{self, framing_of, word, wrong_words};
-use program_base::byte_size::parse_size;
+use program_base::arguments::{self, framing_of, size_of};
 use program_base::command_words::{Argument, command_of};
 use program_base::document_output::{DocumentOutput, standard_output};
 use program_base::failure::{Failure, FailureCause, with_file};
-use program_base::input_files::{
-    files_from, input_failure, inputs, list_of, names_of, null, unnamed_words, words_of,
-};
+use program_base::input_files::{INPUT, InputList, files_from, input_failure, inputs, null};
 use program_base::input_progress::InputProgress;
 use program_base::progress::Progress;
 use segmented_log::Commit;
@@ -97,17 +92,12 @@ pub fn command<'a>(alloc: Global) -> Result<Command<'a>, AllocError> {
 }
 
 // How the words say that the tail is written.
-fn tail_options_of(alloc: Global, matches: &ArgMatches<'_>) -> Result<TailOptions, Failure> {
+fn tail_options_of(alloc: Global, matches: &ArgMatches<'_>) -> Result<TailOptions, FailureCause> {
     let (commit, default_size) = match matches.get_flag("two-syncs") {
         true => (Commit::TwoSyncs, SMALL_SEAL_SIZE),
         false => (Commit::OneSync, SEAL_SIZE),
     };
-    let seal_size = match matches.get_str("seal-size") {
-        Some(size) => {
-            parse_size(size).ok_or_else(|| wrong_words(alloc, "invalid seal size", size))?
-        }
-        None => default_size,
-    };
+    let seal_size = size_of(alloc, matches, "seal-size")?.unwrap_or(default_size);
     Ok(TailOptions { commit, seal_size })
 }
 
@@ -124,7 +114,7 @@ struct AppendOptions {
 }
 
 // How the words say that records are appended.
-fn options_of(alloc: Global, matches: &ArgMatches<'_>) -> Result<AppendOptions, Failure> {
+fn options_of(alloc: Global, matches: &ArgMatches<'_>) -> Result<AppendOptions, FailureCause> {
     let expected = matches.get_one::<u64>("expect");
     Ok(AppendOptions {
         policy: policy_of(alloc, matches, expected.is_some())?,
@@ -141,21 +131,18 @@ type DiskAppending<'a, S> = Appending<DiskFolder<S>, DocumentOutput<'a>, InputPr
 
 // The log at a path, to which the records of inputs are to be appended.
 fn appending_of<'a, S: SystemFiles>(
-    rt: &'a HostRuntime,
-    system: S,
+    logs: Logs<'a, S>,
     path: &str,
     options: AppendOptions,
     paths: &[&str],
-) -> Result<DiskAppending<'a, S>, Failure>
-    requires unchanged { IsTrue S.honest → (d : List ℕ) → S.changes system d ≡ [] }
-{
-    let alloc = rt.alloc();
+) -> Result<DiskAppending<'a, S>, Failure> {
+    let rt = logs.rt;
     let numbers = match options.prints_numbers {
-        true => Some(with_file(alloc, path, standard_output(rt))?),
+        true => Some(with_file(rt.alloc(), path, standard_output(rt))?),
         false => None,
     };
-    let opened = open_or_begin(rt, system, path, options.tail);
-    let OpenedLog { log } = with_file(alloc, path, opened)?;
+    let log = logs.open_or_begin(path, options.tail);
+    let log = with_file(rt.alloc(), path, log)?;
     let progress = InputProgress::begin(rt, options.is_quiet, "records", options.framing, paths);
     Ok(Appending::new(log, options.policy, numbers, progress))
 }
@@ -208,16 +195,13 @@ fn append_all<S: SystemFiles, I: InputFiles>(
     paths: &[&str],
     appending: &mut DiskAppending<'_, S>,
 ) -> Result<(), Failure> {
-    let alloc = rt.alloc();
+    let AppendOptions {
+        framing,
+        expected,
+        ..
+    } = options;
     let from = appending.synced_to;
-    let outcome = append_inputs(
-        alloc,
-        options.framing,
-        files,
-        paths,
-        options.expected,
-        appending,
-    );
+    let outcome = append_inputs(rt.alloc(), framing, files, paths, expected, appending);
     let progress = &appending.progress.line;
     progress.end();
     let to = appending.synced_to;
@@ -228,59 +212,38 @@ fn append_all<S: SystemFiles, I: InputFiles>(
             Ok(())
         }
         Err(error) => {
-            let failure = failure_of(alloc, path, paths, error);
+            let failure = failure_of(rt.alloc(), path, paths, error);
             report(rt, path, &failure, appended, appending.log.is_broken())
         }
     }
 }
 
-// Seals a large tail. Its records are on the disk already, so where that fails they are there all the same, and a later
-// writer seals them.
-fn seal_large<S: SystemFiles>(rt: &HostRuntime, path: &str, log: &mut OpenedLog<S>) {
-    if let Ok(Some(bytes)) = tail_bytes(rt, path) {
-        if bytes >= LARGE_TAIL {
-            let _ = log.seal();
-        }
+// Closes the log, and seals a large tail first. Its records are on the disk already, so where that fails they are there
+// all the same, and a later writer seals them.
+fn end<S: SystemFiles>(rt: &HostRuntime, path: &str, log: WrittenLog<S>, seals: bool) {
+    let mut log = log;
+    match tail_bytes(rt, path) {
+        Ok(Some(bytes)) if seals && bytes >= LARGE_TAIL => drop(log.seal()),
+        _ => {}
     }
+    close(rt, path, log);
 }
 
-// Appends the records of these inputs to the log at a path.
-fn append<S: SystemFiles, I: InputFiles>(
-    rt: &HostRuntime,
-    system: S,
+/// Appends the records of the inputs that the words name to the log at a path.
+pub fn run<S: SystemFiles, I: InputFiles>(
+    logs: Logs<'_, S>,
     files: &mut I,
     path: &str,
-    options: AppendOptions,
-    paths: &[&str],
-) -> Result<(), Failure>
-    requires unchanged { IsTrue S.honest → (d : List ℕ) → S.changes system d ≡ [] }
-{
-    let mut appending = appending_of(rt, system, path, options, paths)?;
-    let appended = append_all(rt, files, path, options, paths, &mut appending);
-    let Appending { log, .. } = appending;
-    let mut log = OpenedLog { log };
-    if appended.is_ok() {
-        seal_large(rt, path, &mut log);
-    }
-    log.close(rt, path);
-    appended
-}
-
-/// Appends the records.
-pub fn run<S: SystemFiles, I: InputFiles>(
-    rt: &HostRuntime,
-    system: S,
-    files: &mut I,
     matches: &ArgMatches<'_>,
-) -> Result<(), Failure>
-    requires unchanged { IsTrue S.honest → (d : List ℕ) → S.changes system d ≡ [] }
-{
-    let alloc = rt.alloc();
-    let path = word(alloc, matches, FOLDER)?;
-    let options = options_of(alloc, matches)?;
-    let list = list_of(rt, matches)?;
-    let words = words_of(matches).unwrap_or(unnamed_words(list.is_some()));
-    let names = names_of(alloc, matches, words, list.as_deref());
-    let names = with_file(alloc, path, names)?;
-    append(rt, system, files, path, options, &names)
+) -> Result<(), Failure> {
+    let rt = logs.rt;
+    let options = options_of(rt.alloc(), matches)?;
+    let list = InputList::read(rt, matches)?;
+    let words = matches.get_strs(INPUT).unwrap_or(&[]);
+    let paths = with_file(rt.alloc(), path, list.paths(rt.alloc(), words))?;
+    let mut appending = appending_of(logs, path, options, &paths)?;
+    let appended = append_all(rt, files, path, options, &paths, &mut appending);
+    let Appending { log, .. } = appending;
+    end(rt, path, log, appended.is_ok());
+    appended
 }

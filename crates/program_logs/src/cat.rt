@@ -1,23 +1,28 @@
 //! `log cat`: prints all records in order.
 
-ghost use Rattle.std.specs.Prelude.{◌≡◌, ℕ, List, [], IsTrue};
+ghost use Rattle.std.specs.Prelude.{◌+◌, ◌-◌, ℕ, List, IsTrue, OnOk, length, max};
+ghost use Rattle.framed_logs.specs.Reading.{PrintsFrom};
+ghost use Rattle.segmented_log.specs.Log.{IsLog};
+ghost use Rattle.store_files.specs.Disk.{replay, seen};
+ghost use Rattle.store_format.specs.Block.{Slot};
 
+use crate::folder;
+use crate::log_refusal::unprinted;
+use crate::logs::{ReadLogs, check_end};
 use crate::places::tail_mark;
-use crate::read_log::{OpenLog, check_end, open_to_read, unprinted};
-use crate::{FOLDER, folder};
 use clap::{ArgMatches, Command};
 use document_framing::DocumentForm;
-use framed_logs::print_records;
+use framed_logs::{ReadLog, print_records};
 use program_base::arguments;
 use program_base::command_words::{Argument, command_of};
 use program_base::document_output::{self, DocumentOutput, form_of, standard_output};
-use program_base::failure::{Failure, FailureCause, to_output, with_file};
+use program_base::failure::{FailureCause, to_output};
 use std::alloc::{AllocError, Global};
 use std::io::Write;
-use std::rc::Rc;
 use std::thread;
 use std::time::Duration;
 use store_files::SystemFiles;
+use store_folder::ReadableFolder;
 
 // How many milliseconds a follower sleeps before it looks for new records.
 const PAUSE: u64 = 100;
@@ -62,32 +67,17 @@ pub fn command<'a>(alloc: Global) -> Result<Command<'a>, AllocError> {
     )
 }
 
-// Which records are printed, and how.
-#[derive(Clone, Copy)]
-struct CatOptions {
-    form: DocumentForm,
-    from: u64,
-    // How many at most, if the words say so.
-    last: Option<u64>,
-    follows: bool,
-}
-
-impl CatOptions {
-    // The number of the first record that is printed of an opened log.
-    fn first_in<S: SystemFiles>(self, read: &OpenLog<S>) -> u64 {
-        let count = self.last.unwrap_or(u64::MAX);
-        self.from.max(read.end().saturating_sub(count))
-    }
-}
-
 // Prints the records of an opened log from a number on, and returns the number after the last one.
-fn print_from<S: SystemFiles>(
+fn print_from<F: ReadableFolder, W: Write>(
     alloc: Global,
-    read: &mut OpenLog<S>,
+    read: &mut ReadLog<F>,
     form: DocumentForm,
     from: u64,
-    output: &mut DocumentOutput<'_>,
-) -> Result<u64, FailureCause> {
+    output: &mut W,
+) -> Result<u64, FailureCause>
+    ensures { IsTrue F.honest → (first : ℕ) (all : List Slot) → IsLog first all (F.seen read.old.folder)
+        → OnOk result (PrintsFrom form first all from (W.contents output.old) (W.contents output.new)) }
+{
     let (first, end) = (read.first(), read.end());
     print_records(alloc, read, form, from.max(first), end, output).map_err(unprinted)?;
     to_output(output.flush())?;
@@ -95,66 +85,59 @@ fn print_from<S: SystemFiles>(
     Ok(from.max(end))
 }
 
+/// Prints the last records of the log at a path, this many at most, from a number on, and returns the number after them.
+/// An Ok says that the output has exactly these more.
+pub fn print<S: SystemFiles, W: Write>(
+    logs: &ReadLogs<'_, S>,
+    path: &str,
+    form: DocumentForm,
+    from: u64,
+    most: u64,
+    output: &mut W,
+) -> Result<u64, FailureCause>
+    ensures { IsTrue S.honest → (first : ℕ) (all : List Slot)
+        → IsLog first all (seen (replay (S.changes logs.now.value path.now) (S.start path.now)))
+        → OnOk result (PrintsFrom form first all (max from (first + length all - most))
+        (W.contents output.old) (W.contents output.new)) }
+{
+    let mut read = logs.open_to_read(path)?;
+    let from = from.max(read.end().saturating_sub(most));
+    print_from(logs.rt.alloc(), &mut read, form, from, output)
+}
+
 // Prints the records from a number on as they come, until a call fails.
 fn follow<S: SystemFiles>(
-    rt: &HostRuntime,
-    system: &Rc<S, Global>,
+    logs: &ReadLogs<'_, S>,
     path: &str,
     form: DocumentForm,
     from: u64,
     output: &mut DocumentOutput<'_>,
-) -> Result<(), FailureCause>
-    requires unchanged { IsTrue S.honest → (d : List ℕ) → S.changes system.now.value d ≡ [] }
-{
-    let mut from = from;
-    let mut seen = None;
+) -> Result<(), FailureCause> {
+    let (mut from, mut seen) = (from, None);
     for _ in 0..u64::MAX {
-        let found = tail_mark(rt, path);
+        let found = tail_mark(logs.rt, path);
         if found.is_none() || found != seen {
-            let mut read = open_to_read(rt, system, path)?;
-            from = print_from(rt.alloc(), &mut read, form, from, output)?;
+            from = print(logs, path, form, from, u64::MAX, output)?;
             seen = found;
         }
-        thread::sleep(rt, Duration::from_millis(PAUSE));
+        thread::sleep(logs.rt, Duration::from_millis(PAUSE));
     }
     Ok(())
 }
 
-// Prints the records of the log at a path.
-fn print<S: SystemFiles>(
-    rt: &HostRuntime,
-    system: &Rc<S, Global>,
+/// Prints the records of the log at a path.
+pub fn run<S: SystemFiles>(
+    logs: &ReadLogs<'_, S>,
     path: &str,
-    options: CatOptions,
-) -> Result<(), FailureCause>
-    requires unchanged { IsTrue S.honest → (d : List ℕ) → S.changes system.now.value d ≡ [] }
-{
-    let mut output = standard_output(rt)?;
-    let mut read = open_to_read(rt, system, path)?;
-    let from = options.first_in(&read);
-    let end = print_from(rt.alloc(), &mut read, options.form, from, &mut output)?;
-    drop(read);
-    match options.follows {
-        true => follow(rt, system, path, options.form, end, &mut output),
+    matches: &ArgMatches<'_>,
+) -> Result<(), FailureCause> {
+    let form = form_of(logs.rt.alloc(), matches)?;
+    let from = matches.get_one::<u64>("from").unwrap_or(0);
+    let most = matches.get_one::<u64>("last").unwrap_or(u64::MAX);
+    let mut output = standard_output(logs.rt)?;
+    let end = print(logs, path, form, from, most, &mut output)?;
+    match matches.get_flag("follow") {
+        true => follow(logs, path, form, end, &mut output),
         false => Ok(()),
     }
-}
-
-/// Prints the records.
-pub fn run<S: SystemFiles>(
-    rt: &HostRuntime,
-    system: &Rc<S, Global>,
-    matches: &ArgMatches<'_>,
-) -> Result<(), Failure>
-    requires unchanged { IsTrue S.honest → (d : List ℕ) → S.changes system.now.value d ≡ [] }
-{
-    let alloc = rt.alloc();
-    let path = arguments::word(alloc, matches, FOLDER)?;
-    let options = CatOptions {
-        form: form_of(alloc, matches)?,
-        from: matches.get_one::<u64>("from").unwrap_or(0),
-        last: matches.get_one::<u64>("last"),
-        follows: matches.get_flag("follow"),
-    };
-    with_file(alloc, path, print(rt, system, path, options))
 }

@@ -1,20 +1,15 @@
 //! `log compact`: joins segments.
 
-ghost use Rattle.std.specs.Prelude.{◌≡◌, ℕ, List, [], IsTrue};
-
-use crate::places::open_to_write;
-use crate::segments::segment_numbers;
-use crate::{FOLDER, folder, is_seen};
+use crate::log_refusal::refused;
+use crate::logs::{Logs, close};
+use crate::places::segment_numbers;
+use crate::{folder, is_seen};
 use clap::{ArgMatches, Command};
-use program_base::arguments::{self, wrong_words};
-use program_base::byte_size::parse_size;
+use program_base::arguments::{self, size_of};
 use program_base::command_words::{Argument, command_of};
-use program_base::failure::{Failure, FailureCause, with_file};
+use program_base::failure::FailureCause;
 use std::alloc::{AllocError, Global};
 use store_files::SystemFiles;
-
-// The name of the argument for the size of a joined segment.
-const SIZE: &str = "size";
 
 const EXAMPLE: &str = "\
 The records and their numbers stay. A joined segment is the store that 'merge' writes of its segments, and takes the
@@ -33,7 +28,7 @@ pub fn command<'a>(alloc: Global) -> Result<Command<'a>, AllocError> {
         &[
             folder(),
             Argument::OptionOr {
-                id: SIZE,
+                id: "size",
                 value: "BYTES",
                 default: "256M",
                 help: "Join neighbouring segments while their data has at most BYTES; suffixes K, M, G",
@@ -43,32 +38,22 @@ pub fn command<'a>(alloc: Global) -> Result<Command<'a>, AllocError> {
     )
 }
 
-// The size that the words give, in bytes.
-fn size_of(alloc: Global, matches: &ArgMatches<'_>) -> Result<u64, Failure> {
-    let text = arguments::word(alloc, matches, SIZE)?;
-    match parse_size(text) {
-        Some(size) => Ok(size as u64),
-        None => Err(wrong_words(alloc, "invalid size", text)),
-    }
-}
-
-// Joins segments of the log at a path, and says what it did if that is seen.
-fn compact<S: SystemFiles>(
-    rt: &HostRuntime,
-    system: S,
+/// Joins segments of the log at a path, and says what it did if that is seen.
+pub fn run<S: SystemFiles>(
+    logs: Logs<'_, S>,
     path: &str,
-    size: u64,
-    is_seen: bool,
-) -> Result<(), FailureCause>
-    requires unchanged { IsTrue S.honest → (d : List ℕ) → S.changes system d ≡ [] }
-{
-    let mut log = open_to_write(rt, system, path)?;
+    matches: &ArgMatches<'_>,
+) -> Result<(), FailureCause> {
+    let rt = logs.rt;
+    // There is a size: it has a default.
+    let size = size_of(rt.alloc(), matches, "size")?.unwrap_or(0);
+    let mut log = logs.open(path)?;
     let before = segment_numbers(rt, path)?.len();
-    let compacted = log.compact(size);
-    log.close(rt, path);
-    compacted?;
+    let compacted = log.compact(size as u64);
+    close(rt, path, log);
+    compacted.map_err(refused)?;
     let after = segment_numbers(rt, path)?.len();
-    if is_seen {
+    if is_seen(rt, matches) {
         let none = if before == after {
             "; none were joined"
         } else {
@@ -77,19 +62,4 @@ fn compact<S: SystemFiles>(
         eprintln!(rt; "segments: {before} before, {after} now{none}")?;
     }
     Ok(())
-}
-
-/// Joins the segments.
-pub fn run<S: SystemFiles>(
-    rt: &HostRuntime,
-    system: S,
-    matches: &ArgMatches<'_>,
-) -> Result<(), Failure>
-    requires unchanged { IsTrue S.honest → (d : List ℕ) → S.changes system d ≡ [] }
-{
-    let alloc = rt.alloc();
-    let path = arguments::word(alloc, matches, FOLDER)?;
-    let size = size_of(alloc, matches)?;
-    let is_seen = is_seen(rt, matches);
-    with_file(alloc, path, compact(rt, system, path, size, is_seen))
 }

@@ -1,21 +1,16 @@
 //! `log drop`: removes the oldest records.
 
-ghost use Rattle.std.specs.Prelude.{◌≡◌, ℕ, List, [], IsTrue};
-
 use crate::log_refusal::refused;
-use crate::places::folder_to_write;
+use crate::logs::Logs;
 use crate::record_span::RecordSpan;
-use crate::{FOLDER, folder, is_seen};
+use crate::{folder, is_seen};
 use clap::{ArgMatches, Command};
-use program_base::arguments::{self, wrong_words};
+use program_base::arguments;
 use program_base::command_words::{Argument, command_of};
-use program_base::failure::{Failure, FailureCause, with_file};
+use program_base::failure::FailureCause;
 use segmented_log::LogReader;
 use std::alloc::{AllocError, Global};
 use store_files::{DiskFolder, SystemFiles};
-
-// The name of the argument for the first number that stays.
-const BEFORE: &str = "before";
 
 const EXAMPLE: &str = "\
 A segment is removed where all its records have smaller numbers, the oldest first. So records before NUMBER may stay:
@@ -34,23 +29,14 @@ pub fn command<'a>(alloc: Global) -> Result<Command<'a>, AllocError> {
         EXAMPLE,
         &[
             folder(),
-            Argument::RequiredOption {
-                id: BEFORE,
+            Argument::RequiredNumber {
+                id: "before",
                 value: "NUMBER",
                 help: "Remove segments whose records all have smaller numbers",
             },
             arguments::quiet(),
         ],
     )
-}
-
-// The number that the words give.
-fn number_of(alloc: Global, matches: &ArgMatches<'_>) -> Result<u64, Failure> {
-    let text = arguments::word(alloc, matches, BEFORE)?;
-    match text.parse::<u64>() {
-        Ok(number) => Ok(number),
-        Err(_) => Err(wrong_words(alloc, "invalid record number", text)),
-    }
 }
 
 // What is said where records that might go stay.
@@ -80,18 +66,18 @@ fn tell(
     Ok(())
 }
 
-// Removes segments of the log at a path, and says what it did if that is seen. The log is not opened: its tail may be
-// torn or damaged, and the device full.
-fn drop_before<S: SystemFiles>(
-    rt: &HostRuntime,
-    system: S,
+/// Removes segments of the log at a path, and says what it did if that is seen. The log is not opened: its tail may be
+/// torn or damaged, and the device full.
+pub fn run<S: SystemFiles>(
+    logs: Logs<'_, S>,
     path: &str,
-    number: u64,
-    is_seen: bool,
-) -> Result<(), FailureCause>
-    requires unchanged { IsTrue S.honest → (d : List ℕ) → S.changes system d ≡ [] }
-{
-    let mut folder = folder_to_write(rt, system, path)?;
+    matches: &ArgMatches<'_>,
+) -> Result<(), FailureCause> {
+    let rt = logs.rt;
+    // There is a number: clap requires one.
+    let number = matches.get_one::<u64>("before").unwrap_or(0);
+    let is_seen = is_seen(rt, matches);
+    let mut folder = logs.folder(path)?;
     let dropped = segmented_log::drop_segments(rt.alloc(), &mut *folder, number);
     let staying = match &dropped {
         Ok(_) if is_seen => count_before(rt.alloc(), &*folder, number),
@@ -109,19 +95,4 @@ fn drop_before<S: SystemFiles>(
         Ok(_) => Ok(()),
         Err(error) => Err(refused(error)),
     }
-}
-
-/// Removes the segments.
-pub fn run<S: SystemFiles>(
-    rt: &HostRuntime,
-    system: S,
-    matches: &ArgMatches<'_>,
-) -> Result<(), Failure>
-    requires unchanged { IsTrue S.honest → (d : List ℕ) → S.changes system d ≡ [] }
-{
-    let alloc = rt.alloc();
-    let path = arguments::word(alloc, matches, FOLDER)?;
-    let number = number_of(alloc, matches)?;
-    let is_seen = is_seen(rt, matches);
-    with_file(alloc, path, drop_before(rt, system, path, number, is_seen))
 }

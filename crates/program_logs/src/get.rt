@@ -1,21 +1,19 @@
 //! `log get`: prints records by their numbers.
 
-ghost use Rattle.std.specs.Prelude.{◌≡◌, ℕ, List, [], IsTrue};
-
+use crate::folder;
+use crate::log_refusal::unprinted;
+use crate::logs::{OpenLog, ReadLogs, check_end};
 use crate::number_range::NumberRange;
-use crate::read_log::{OpenLog, check_end, open_to_read, unprinted};
-use crate::{FOLDER, folder};
 use clap::{ArgMatches, Command};
 use document_framing::DocumentForm;
 use framed_logs::print_records;
 use program_base::arguments;
 use program_base::command_words::{Argument, command_of};
 use program_base::document_output::{self, DocumentOutput, form_of, standard_output};
-use program_base::failure::{Failure, FailureCause, to_output, with_file};
-use program_base::listed_numbers::ListedNumbers;
+use program_base::failure::{FailureCause, to_output};
+use program_base::listed_numbers::{ListedNumbers, is_listed};
 use std::alloc::{AllocError, Global};
 use std::io::Write;
-use std::rc::Rc;
 use store_files::SystemFiles;
 
 const EXAMPLE: &str = "\
@@ -56,19 +54,8 @@ struct Printer<'a, S: SystemFiles> {
 }
 
 impl<'a, S: SystemFiles> Printer<'a, S> {
-    // Prints the records of a range.
-    fn print(&mut self, range: NumberRange) -> Result<(), FailureCause> {
-        let numbers = range.among(self.read.first(), self.read.end())?;
-        let (from, to) = (numbers.start, numbers.end);
-        let (read, output) = (&mut self.read, &mut self.output);
-        print_records(self.alloc, read, self.form, from, to, output).map_err(unprinted)
-    }
-
-    // Prints the records of the range that each word names, or of those in the standard input.
-    fn print_words(&mut self, rt: &HostRuntime, words: &[&str]) -> Result<(), FailureCause> {
-        if is_listed(words) {
-            return self.print_listed(rt);
-        }
+    // Prints the records of the range that each word names.
+    fn print_words(&mut self, words: &[&str]) -> Result<(), FailureCause> {
         for word in words {
             self.print_word(word)?;
         }
@@ -96,7 +83,10 @@ impl<'a, S: SystemFiles> Printer<'a, S> {
     // Prints the records that a word names.
     fn print_word(&mut self, word: &str) -> Result<(), FailureCause> {
         let range = NumberRange::parse(self.alloc, word)?;
-        self.print(range)
+        let numbers = range.among(self.read.first(), self.read.end())?;
+        let (from, to) = (numbers.start, numbers.end);
+        let (read, output) = (&mut self.read, &mut self.output);
+        print_records(self.alloc, read, self.form, from, to, output).map_err(unprinted)
     }
 
     // Hands over what was printed.
@@ -105,55 +95,35 @@ impl<'a, S: SystemFiles> Printer<'a, S> {
     }
 }
 
-// Whether the numbers are in the standard input.
-fn is_listed(words: &[&str]) -> bool {
-    matches!(words, ["-"])
-}
-
-// Fails if a word is not a range, unless the numbers are in the standard input.
+// Fails if a word is not a range.
 fn check_words(alloc: Global, words: &[&str]) -> Result<(), FailureCause> {
-    if is_listed(words) {
-        return Ok(());
-    }
     for word in words {
         let _range = NumberRange::parse(alloc, word)?;
     }
     Ok(())
 }
 
-// Prints the records that words name, or those whose numbers are in the standard input.
-fn print<S: SystemFiles>(
-    rt: &HostRuntime,
-    system: &Rc<S, Global>,
+/// Prints the records that words name, or those whose numbers are in the standard input.
+pub fn run<S: SystemFiles>(
+    logs: &ReadLogs<'_, S>,
     path: &str,
-    form: DocumentForm,
-    words: &[&str],
-) -> Result<(), FailureCause>
-    requires unchanged { IsTrue S.honest → (d : List ℕ) → S.changes system.now.value d ≡ [] }
-{
-    let alloc = rt.alloc();
-    check_words(alloc, words)?;
+    matches: &ArgMatches<'_>,
+) -> Result<(), FailureCause> {
+    let (rt, alloc) = (logs.rt, logs.rt.alloc());
+    let form = form_of(alloc, matches)?;
+    let words = matches.get_strs("NUMBER").unwrap_or(&[]);
+    if !is_listed(words) {
+        check_words(alloc, words)?;
+    }
     let mut printer = Printer {
         alloc,
-        read: open_to_read(rt, system, path)?,
+        read: logs.open_to_read(path)?,
         output: standard_output(rt)?,
         form,
     };
-    printer.print_words(rt, words)?;
+    match is_listed(words) {
+        true => printer.print_listed(rt)?,
+        false => printer.print_words(words)?,
+    }
     check_end(&printer.read)
-}
-
-/// Prints the records.
-pub fn run<S: SystemFiles>(
-    rt: &HostRuntime,
-    system: &Rc<S, Global>,
-    matches: &ArgMatches<'_>,
-) -> Result<(), Failure>
-    requires unchanged { IsTrue S.honest → (d : List ℕ) → S.changes system.now.value d ≡ [] }
-{
-    let alloc = rt.alloc();
-    let path = arguments::word(alloc, matches, FOLDER)?;
-    let form = form_of(alloc, matches)?;
-    let words = matches.get_strs("NUMBER").unwrap_or(&[]);
-    with_file(alloc, path, print(rt, system, path, form, words))
 }

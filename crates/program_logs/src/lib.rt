@@ -7,14 +7,12 @@ mod compact;
 mod drop;
 mod get;
 mod log_refusal;
+mod logs;
 mod number_range;
-mod opened_log;
 mod places;
-mod read_log;
 mod record_span;
 mod repair;
 mod seal;
-mod segments;
 mod stat;
 mod sync_policy;
 mod verify;
@@ -23,9 +21,10 @@ ghost use Rattle.std.specs.Prelude.{◌≡◌, ℕ, List, [], IsTrue};
 
 use clap::{ArgMatches, Command};
 use document_framing::InputFiles;
-use program_base::arguments::wrong_words;
+use logs::{Logs, ReadLogs};
+use program_base::arguments::{word, wrong_words};
 use program_base::command_words::{Argument, add};
-use program_base::failure::Failure;
+use program_base::failure::{Failure, FailureCause, with_file};
 use std::alloc::{AllocError, Global};
 use std::io::IsTerminal;
 use std::rc::Rc;
@@ -87,19 +86,38 @@ fn is_seen(rt: &HostRuntime, matches: &ArgMatches<'_>) -> bool {
 
 // Does what the words ask of a command that only reads.
 fn read<S: SystemFiles>(
-    rt: &HostRuntime,
-    system: &Rc<S, Global>,
+    logs: &ReadLogs<'_, S>,
     name: &str,
     matches: &ArgMatches<'_>,
-) -> Result<(), Failure>
-    requires unchanged { IsTrue S.honest → (d : List ℕ) → S.changes system.now.value d ≡ [] }
-{
+) -> Result<(), Failure> {
+    let alloc = logs.rt.alloc();
     match name {
-        "get" => get::run(rt, system, matches),
-        "cat" => cat::run(rt, system, matches),
-        "stat" => stat::run(rt, system, matches),
-        "verify" => verify::run(rt, system, matches),
-        _ => Err(wrong_words(rt.alloc(), "unknown command", name)),
+        "stat" => return stat::run(logs, matches),
+        "verify" => return verify::run(logs, matches),
+        _ => {}
+    }
+    let path = word(alloc, matches, FOLDER)?;
+    let given = match name {
+        "get" => get::run(logs, path, matches),
+        "cat" => cat::run(logs, path, matches),
+        _ => Err(wrong_words(alloc, "unknown command", name)),
+    };
+    with_file(alloc, path, given)
+}
+
+// Does what the words ask of a command that writes the log at a path.
+fn write<S: SystemFiles>(
+    logs: Logs<'_, S>,
+    name: &str,
+    path: &str,
+    matches: &ArgMatches<'_>,
+) -> Result<(), FailureCause> {
+    match name {
+        "repair" => repair::run(logs, path),
+        "seal" => seal::run(logs, path, matches),
+        "compact" => compact::run(logs, path, matches),
+        "drop" => drop::run(logs, path, matches),
+        _ => Err(wrong_words(logs.rt.alloc(), "unknown command", name)),
     }
 }
 
@@ -115,12 +133,12 @@ pub fn run<S: SystemFiles, I: InputFiles + Drop>(
     let Some((name, matches)) = matches.subcommand() else {
         return Ok(());
     };
+    if let "get" | "cat" | "stat" | "verify" = name {
+        return read(&Logs::new(rt, Rc::new(rt.alloc(), system)?), name, matches);
+    }
+    let (logs, path) = (Logs::new(rt, system), word(rt.alloc(), matches, FOLDER)?);
     match name {
-        "append" => append::run(rt, system, &mut files, matches),
-        "repair" => repair::run(rt, system, matches),
-        "seal" => seal::run(rt, system, matches),
-        "compact" => compact::run(rt, system, matches),
-        "drop" => drop::run(rt, system, matches),
-        _ => read(rt, &Rc::new(rt.alloc(), system)?, name, matches),
+        "append" => append::run(logs, &mut files, path, matches),
+        _ => with_file(rt.alloc(), path, write(logs, name, path, matches)),
     }
 }

@@ -1,5 +1,6 @@
 //! What the program reports where a log refuses a call.
 
+use framed_logs::{PrintError, ReadError};
 use program_base::failure::{FailureCause, LogRefusal};
 use program_base::status::Status;
 use segmented_log::LogError;
@@ -41,4 +42,22 @@ pub fn refused(error: LogError) -> FailureCause {
         advice,
         status,
     })
+}
+
+/// Why a log was not opened to be read, or no record of it read.
+pub fn unread(error: ReadError) -> FailureCause {
+    match error {
+        ReadError::NoRecord { number, first, end } => FailureCause::NoRecord { number, first, end },
+        ReadError::Damaged(number) => FailureCause::DamagedRecord(number),
+        ReadError::Busy => FailureCause::BusyLog,
+        ReadError::Log(error) => refused(error),
+    }
+}
+
+/// Why not all records were printed.
+pub fn unprinted(error: PrintError) -> FailureCause {
+    match error {
+        PrintError::Read(error) => unread(error),
+        PrintError::Show(error) => error.into(),
+    }
 }

@@ -47,15 +47,12 @@ impl NumberRange {
 
     /// The range that a word names. One that ends before it begins is an error.
     pub fn parse(alloc: Global, word: &str) -> Result<NumberRange, FailureCause> {
-        match NumberRange::from_word(word) {
-            Some(range) if range.is_backward() => Err(FailureCause::Words(format!(in alloc;
-                "'{word}' ends before it begins"
-            )?)),
-            Some(range) => Ok(range),
-            None => Err(FailureCause::Words(format!(in alloc;
-                "'{word}' is not a record number or a range"
-            )?)),
-        }
+        let text = match NumberRange::from_word(word) {
+            Some(range) if !range.is_backward() => return Ok(range),
+            Some(_) => format!(in alloc; "'{word}' ends before it begins")?,
+            None => format!(in alloc; "'{word}' is not a record number or a range")?,
+        };
+        Err(FailureCause::Words(text))
     }
 
     /// The numbers of it in a log whose records have the numbers from `first` to before `end`. A range that names a

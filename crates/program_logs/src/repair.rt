@@ -1,14 +1,12 @@
 //! `log repair`: cuts off the end of a damaged tail, and keeps it.
 
-ghost use Rattle.std.specs.Prelude.{◌≡◌, ℕ, List, [], IsTrue};
-
+use crate::folder;
 use crate::log_refusal::refused;
-use crate::places::{file_in, folder_to_write};
-use crate::{FOLDER, folder};
-use clap::{ArgMatches, Command};
-use program_base::arguments;
+use crate::logs::Logs;
+use crate::places::file_in;
+use clap::Command;
 use program_base::command_words::command_of;
-use program_base::failure::{Failure, FailureCause, to_output, with_file};
+use program_base::failure::{FailureCause, to_output};
 use std::alloc::{AllocError, Global};
 use std::fs;
 use store_files::SystemFiles;
@@ -42,11 +40,10 @@ fn tell(rt: &HostRuntime, path: &str, name: &str) -> Result<(), FailureCause> {
     ))
 }
 
-// Repairs the log at a path.
-fn repair<S: SystemFiles>(rt: &HostRuntime, system: S, path: &str) -> Result<(), FailureCause>
-    requires unchanged { IsTrue S.honest → (d : List ℕ) → S.changes system d ≡ [] }
-{
-    let mut folder = folder_to_write(rt, system, path)?;
+/// Repairs the log at a path.
+pub fn run<S: SystemFiles>(logs: Logs<'_, S>, path: &str) -> Result<(), FailureCause> {
+    let rt = logs.rt;
+    let mut folder = logs.folder(path)?;
     let cut = segmented_log::repair(rt.alloc(), &mut *folder);
     drop(folder);
     match cut {
@@ -54,17 +51,4 @@ fn repair<S: SystemFiles>(rt: &HostRuntime, system: S, path: &str) -> Result<(),
         Ok(None) => to_output(println!(rt; "{path}: the tail is whole; nothing was cut off")),
         Err(error) => Err(refused(error)),
     }
-}
-
-/// Repairs the log.
-pub fn run<S: SystemFiles>(
-    rt: &HostRuntime,
-    system: S,
-    matches: &ArgMatches<'_>,
-) -> Result<(), Failure>
-    requires unchanged { IsTrue S.honest → (d : List ℕ) → S.changes system d ≡ [] }
-{
-    let alloc = rt.alloc();
-    let path = arguments::word(alloc, matches, FOLDER)?;
-    with_file(alloc, path, repair(rt, system, path))
 }

@@ -1,15 +1,14 @@
 //! `log seal`: puts the tail's records into a segment.
 
-ghost use Rattle.std.specs.Prelude.{◌≡◌, ℕ, List, [], IsTrue};
-
-use crate::places::open_to_write;
+use crate::log_refusal::refused;
+use crate::logs::{Logs, close};
+use crate::places::segment_numbers;
 use crate::record_span::RecordSpan;
-use crate::segments::segment_numbers;
-use crate::{FOLDER, folder, is_seen};
+use crate::{folder, is_seen};
 use clap::{ArgMatches, Command};
 use program_base::arguments;
 use program_base::command_words::command_of;
-use program_base::failure::{Failure, FailureCause, with_file};
+use program_base::failure::FailureCause;
 use segmented_log::segment_file;
 use std::alloc::{AllocError, Global};
 use store_files::SystemFiles;
@@ -48,37 +47,21 @@ fn tell(rt: &HostRuntime, path: &str, before: usize, end: u64) -> Result<(), Fai
     Ok(())
 }
 
-// Seals the log at a path, and says what it did if that is seen.
-fn seal<S: SystemFiles>(
-    rt: &HostRuntime,
-    system: S,
+/// Seals the log at a path, and says what it did if that is seen.
+pub fn run<S: SystemFiles>(
+    logs: Logs<'_, S>,
     path: &str,
-    is_seen: bool,
-) -> Result<(), FailureCause>
-    requires unchanged { IsTrue S.honest → (d : List ℕ) → S.changes system d ≡ [] }
-{
-    let mut log = open_to_write(rt, system, path)?;
+    matches: &ArgMatches<'_>,
+) -> Result<(), FailureCause> {
+    let rt = logs.rt;
+    let mut log = logs.open(path)?;
     let before = segment_numbers(rt, path)?.len();
     let sealed = log.seal();
     let end = log.end();
-    log.close(rt, path);
-    sealed?;
-    match is_seen {
+    close(rt, path, log);
+    sealed.map_err(refused)?;
+    match is_seen(rt, matches) {
         true => tell(rt, path, before, end),
         false => Ok(()),
     }
-}
-
-/// Seals the log.
-pub fn run<S: SystemFiles>(
-    rt: &HostRuntime,
-    system: S,
-    matches: &ArgMatches<'_>,
-) -> Result<(), Failure>
-    requires unchanged { IsTrue S.honest → (d : List ℕ) → S.changes system d ≡ [] }
-{
-    let alloc = rt.alloc();
-    let path = arguments::word(alloc, matches, FOLDER)?;
-    let is_seen = is_seen(rt, matches);
-    with_file(alloc, path, seal(rt, system, path, is_seen))
 }

@@ -5,16 +5,10 @@ use clap::parser::ValueSource;
 use framed_logs::SyncPolicy;
 use program_base::arguments::{word, wrong_words};
 use program_base::command_words::Argument;
-use program_base::failure::Failure;
+use program_base::failure::FailureCause;
 use std::alloc::Global;
 
-const EVERY: &str = "every";
-
-const BATCH: &str = "batch";
-
-const END: &str = "end";
-
-const POLICIES: [&str; 3] = [EVERY, BATCH, END];
+const POLICIES: [&str; 3] = ["every", "batch", "end"];
 
 const HELP: &str = "\
 When records are put on the disk:
@@ -28,7 +22,7 @@ pub fn sync<'a>() -> Argument<'a> {
         id: "sync",
         value: "WHEN",
         choices: POLICIES.as_slice(),
-        default: BATCH,
+        default: "batch",
         help: "When records are put on the disk",
         long_help: HELP,
     }
@@ -39,18 +33,18 @@ pub fn policy_of(
     alloc: Global,
     matches: &ArgMatches<'_>,
     is_counted: bool,
-) -> Result<SyncPolicy, Failure> {
+) -> Result<SyncPolicy, FailureCause> {
     let name = word(alloc, matches, "sync")?;
-    if is_counted && name != END {
-        return match matches.value_source("sync") {
-            Some(ValueSource::DefaultValue) => Ok(SyncPolicy::End),
-            _ => Err(wrong_words(alloc, "'--expect' takes no other '--sync' than 'end'", name)),
-        };
+    match name {
+        "end" => return Ok(SyncPolicy::End),
+        _ if !is_counted => {}
+        _ if matches.value_source("sync") == Some(ValueSource::DefaultValue) => {
+            return Ok(SyncPolicy::End);
+        }
+        _ => return Err(wrong_words(alloc, "'--expect' takes no other '--sync' than 'end'", name)),
     }
     match name {
-        EVERY => Ok(SyncPolicy::Every),
-        BATCH => Ok(SyncPolicy::Batch),
-        END => Ok(SyncPolicy::End),
-        name => Err(wrong_words(alloc, "invalid argument", name)),
+        "every" => Ok(SyncPolicy::Every),
+        _ => Ok(SyncPolicy::Batch),
     }
 }

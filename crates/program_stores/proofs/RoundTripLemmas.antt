@@ -1,5 +1,5 @@
 -- What is printed of a store that was published.
-use Rattle.std.proofs.Common.{◌≡◌, inl, inr, ℕ, List, [], false, Option, Some, IfSome, subst, ◌∙◌}
+use Rattle.std.proofs.Common.{◌≡◌, inl, inr, ℕ, List, [], false, Option, None, Some, IfSome, subst, ◌∙◌}
 use Rattle.std.specs.Io.KnownBytes.{Appends}
 use Rattle.document_framing.specs.declared.form.DocumentForm.TheVariants.{Framed}
 use Rattle.document_framing.specs.declared.framing.Framing.{Framing}
@@ -30,7 +30,7 @@ whole_content file content bytes period blocks there is store =
 
 -- a reader of a store that was published has its blocks, and prints its documents
 pub printed_published : (framing : Framing) (expected : Option ℕ) (known : Option (List (List ℕ))) (period : ℕ) (old new : Option (List ℕ)) (d : Disk) (name : List ℕ)
-    → IsPublished name d (IsStoreOf (ArePacked expected known) (λ _. Unit {0}) period) → StoresAreApart
+    → IsPublished name d (IsStoreOf (ArePacked None expected known) (λ _. Unit {0}) period) → StoresAreApart
     → ((reader : Reading) × IsReaderOf false (seen d name) reader × PrintsOthers (Framed framing) (skips [] false reader) reader old new)
     → IfSome known (λ documents. Appends old new (framed framing documents))
 printed_published framing expected known period old new d name published apart (reader, is, prints) =

@@ -1,5 +1,12 @@
 //! `export`: writes the documents of a store as a file that another program reads.
 
+ghost use Rattle.std.specs.Prelude.{ℕ, List, IfOk, IsTrue, string_bytes};
+ghost use Rattle.program_base.specs.StoresOnDisk.{IsPublished, IsReaderOf};
+ghost use Rattle.store_files.specs.Disk.{replay, seen};
+ghost use Rattle.store_files.specs.Paths.{IsPath};
+ghost use Rattle.store_reader.specs.Reading.{Reading};
+ghost use Rattle.tantivy_export.specs.Exporting.{IsExportOf};
+
 use clap::{ArgMatches, Command};
 use docstore::StoreError;
 use program_base::arguments::{self, input_path};
@@ -11,7 +18,7 @@ use program_base::store_file::{OpenReader, StorePath, explained};
 use program_base::store_output::{OutputPlace, output_place, summarize};
 use std::alloc::{AllocError, Global};
 use store_files::{ReadAt, SystemFiles};
-use store_published::{FillError, publish_export};
+use store_published::FillError;
 
 // How many bytes of the store are in memory at a time.
 const PART_BYTES: usize = 1 << 22;
@@ -52,38 +59,44 @@ fn failure_of<F: ReadAt>(
     out: &str,
     error: FillError<StoreError>,
 ) -> Failure {
-    match error {
-        FillError::Folder(error) => Failure::at_file(alloc, out, FailureCause::of_output(error)),
+    let cause = match error {
+        FillError::Folder(error) => FailureCause::of_output(error),
+        FillError::Store(error) => FailureCause::Store(error),
         FillError::Filling(StoreError::Failed(cause)) => {
-            Failure::at_file(alloc, out, FailureCause::Store(StoreError::Failed(cause)))
+            FailureCause::Store(StoreError::Failed(cause))
         }
         FillError::Filling(error) => {
-            Failure::at_file(
-                alloc,
-                input,
-                explained(reader.file(), FailureCause::Store(error)),
-            )
+            let cause = explained(reader.file(), FailureCause::Store(error));
+            return Failure::at_file(alloc, input, cause);
         }
-        FillError::Store(error) => Failure::at_file(alloc, out, FailureCause::Store(error)),
-    }
+    };
+    Failure::at_file(alloc, out, cause)
 }
 
-// Writes the store as a file of this name.
-fn export<S: SystemFiles>(
+/// Writes the store at a path as a file that tantivy opens, and returns the place at which it was published. An Ok says
+/// that this file has exactly the documents of the store that the system had at its path, and that every crash leaves
+/// just this file there.
+pub fn export<S: SystemFiles>(
     rt: &HostRuntime,
     system: S,
     store: StorePath<'_>,
     output: OutputPath<'_>,
     progress: &Progress<'_>,
-) -> Result<(), Failure> {
+) -> Result<Box<OutputPlace<S>>, Failure>
+    ensures exported { IsTrue S.honest → (d n : List ℕ) → IsPath d n store.entry.path.now → IfOk result (λ place.
+        (reader : Reading) × IsReaderOf store.entry.is_tantivy (seen (replay (S.changes system d) (S.start d)) n) reader
+        × IsPublished (string_bytes place.value.name)
+        (replay (S.changes place.value.folder.system place.value.folder.path) (S.start place.value.folder.path))
+        (IsExportOf reader)) }
+{
     let alloc = rt.alloc();
     let mut reader = with_file(alloc, store.path, store.reader(alloc, &system))?;
     let mut place = output_place(rt, system, output, &[store.path])?;
-    let OutputPlace { folder, name } = &mut *place;
-    match publish_export(alloc, folder, name.as_str(), &mut *reader, PART_BYTES) {
-        Ok(written) => summarize(rt, output.path, written, progress),
-        Err(error) => Err(failure_of(alloc, &reader, store.path, output.path, error)),
+    match place.export(alloc, &mut *reader, PART_BYTES) {
+        Ok(written) => summarize(rt, output.path, written, progress)?,
+        Err(error) => return Err(failure_of(alloc, &reader, store.path, output.path, error)),
     }
+    Ok(place)
 }
 
 /// Writes the file.
@@ -99,5 +112,6 @@ pub fn run<S: SystemFiles>(
     };
     let output = output_of(alloc, matches)?;
     let progress = Progress::begin(rt, matches.get_flag("quiet"), None);
-    export(rt, system, store, output, &progress)
+    drop(export(rt, system, store, output, &progress)?);
+    Ok(())
 }

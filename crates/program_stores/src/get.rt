@@ -1,9 +1,12 @@
 //! `get`: prints documents by their numbers.
 
-ghost use Rattle.std.specs.Prelude.{◌≡◌, IsTrue, OnOk};
-ghost use Rattle.std.specs.Io.KnownBytes.{Keeps};
-ghost use Rattle.program_stores.specs.Given.{PrintsRange, PrintsRanges};
-ghost use Rattle.store_reader.specs.Reading.{IsSameStore};
+ghost use Rattle.std.specs.Prelude.{◌≡◌, ℕ, List, map, IfOk, IsTrue, OnOk, Some};
+ghost use Rattle.program_base.specs.StoresOnDisk.{IsReaderOf};
+ghost use Rattle.program_stores.specs.Given.{PrintsRange, PrintsRanges, PrintsWords};
+ghost use Rattle.store_commands.specs.IdRanges.{range_named};
+ghost use Rattle.store_files.specs.Disk.{replay, seen};
+ghost use Rattle.store_files.specs.Paths.{IsPath};
+ghost use Rattle.store_reader.specs.Reading.{IsSameStore, Reading};
 
 use clap::{ArgMatches, Command};
 use document_framing::DocumentForm;
@@ -12,17 +15,14 @@ use program_base::arguments;
 use program_base::command_words::{Argument, command_of};
 use program_base::document_output::{self, form_of, standard_output};
 use program_base::failure::{Failure, FailureCause, to_output, with_file};
-use program_base::listed_numbers::ListedNumbers;
+use program_base::listed_numbers::{ListedNumbers, is_listed};
 use program_base::number_words::check_id_word;
-use program_base::store_file::{DiskReader, StorePath, store_path, with_reason};
+use program_base::store_file::{OpenReader, StorePath, store_path, with_reason};
 use std::alloc::{AllocError, Global};
 use std::io::{Read, Write};
 use store_commands::id_range::range_of;
 use store_commands::{IdRange, ranges_of};
 use store_files::{ReadAt, SystemFiles};
-
-// No words.
-const NO_WORDS: &[&str] = &[];
 
 const EXAMPLE: &str = "\
 Examples:
@@ -51,83 +51,107 @@ pub fn command<'a>(alloc: Global) -> Result<Command<'a>, AllocError> {
     )
 }
 
-// An opened store, and the output for its documents.
-#[derive(Drop)]
-struct Printer<'o, F: ReadAt, W: Write> {
+// Prints the documents of a range. Where the file is honest, an Ok says that exactly these came.
+fn print_one<F: ReadAt, W: Write>(
     alloc: Global,
-    reader: DiskReader<F>,
-    output: &'o mut W,
+    reader: &mut OpenReader<F>,
     form: DocumentForm,
+    output: &mut W,
+    range: IdRange,
+) -> Result<(), FailureCause>
+    ensures printed { IsTrue reader.old.file.honest → OnOk result
+        (PrintsRange form reader.old range (W.contents output.old) (W.contents output.new)) }
+    ensures same_store { IsSameStore reader.old reader.new }
+{
+    let ids = range.among(reader.num_docs())?;
+    if ids.start > ids.end {
+        return Ok(());
+    }
+    let printed = print_range(alloc, reader, form, output, ids);
+    with_reason(reader, printed.map_err(FailureCause::from))
 }
 
-impl<'o, F: ReadAt, W: Write> Printer<'o, F, W> {
-    // Prints the documents of a range. Where the file is honest, an Ok says that exactly these came.
-    fn print(&mut self, range: IdRange) -> Result<(), FailureCause>
-        ensures printed { IsTrue self.old.reader.value.file.honest → OnOk result (PrintsRange self.old.form
-            self.old.reader.value range (W.contents self.old.output.now) (W.contents self.new.output.now)) }
-        ensures same_store { IsSameStore self.old.reader.value self.new.reader.value }
-        ensures form { self.new.form ≡ self.old.form }
-        ensures output { self.new.output.ghost_name ≡ self.old.output.ghost_name }
-    {
-        let ids = range.among(self.reader.num_docs())?;
-        if ids.start > ids.end {
-            return Ok(());
+// Prints the documents of each range, one range after the other. Where the file is honest, an Ok says that exactly these
+// came.
+fn print_all<F: ReadAt, W: Write>(
+    alloc: Global,
+    reader: &mut OpenReader<F>,
+    form: DocumentForm,
+    output: &mut W,
+    ranges: &[IdRange],
+) -> Result<(), FailureCause>
+    ensures { IsTrue reader.old.file.honest → OnOk result
+        (PrintsRanges form reader.old ranges.now (W.contents output.old) (W.contents output.new)) }
+{
+    for range in ranges {
+        print_one(alloc, reader, form, output, *range)?;
+    }
+    to_output(output.flush())
+}
+
+// Prints the documents that a word names.
+fn print_word<F: ReadAt, W: Write>(
+    alloc: Global,
+    reader: &mut OpenReader<F>,
+    form: DocumentForm,
+    output: &mut W,
+    word: &str,
+) -> Result<(), FailureCause> {
+    check_id_word(alloc, word)?;
+    print_one(alloc, reader, form, output, range_of(alloc, word)?)
+}
+
+// Prints those that the lines of an input name. What was asked for is printed before more is waited for.
+fn print_listed<F: ReadAt, W: Write, R: Read + Drop>(
+    alloc: Global,
+    reader: &mut OpenReader<F>,
+    form: DocumentForm,
+    output: &mut W,
+    input: R,
+) -> Result<(), FailureCause> {
+    let mut numbers = ListedNumbers::new(alloc, input)?;
+    for _ in 0..u64::MAX {
+        if !numbers.read()? {
+            break;
         }
-        let printed = print_range(self.alloc, &mut *self.reader, self.form, self.output, ids);
-        with_reason(&self.reader, printed.map_err(FailureCause::from))
-    }
-
-    // Prints the documents of each range, one range after the other. Where the file is honest, an Ok says that exactly
-    // these came.
-    fn print_all(&mut self, ranges: &[IdRange]) -> Result<(), FailureCause>
-        ensures { IsTrue self.old.reader.value.file.honest → OnOk result (PrintsRanges self.old.form
-            self.old.reader.value ranges.now (W.contents self.old.output.now) (W.contents self.new.output.now)) }
-    {
-        for range in ranges {
-            self.print(*range)?;
+        if !numbers.word().is_empty() {
+            let printed = print_word(alloc, reader, form, output, numbers.word());
+            numbers.outcome(printed)?;
         }
-        self.flush()
-    }
-
-    // Prints those that the lines of an input name. What was asked for is printed before more is waited for.
-    fn print_listed<R: Read + Drop>(&mut self, input: R) -> Result<(), FailureCause> {
-        let mut numbers = ListedNumbers::new(self.alloc, input)?;
-        for _ in 0..u64::MAX {
-            if !numbers.read()? {
-                break;
-            }
-            if !numbers.word().is_empty() {
-                let printed = self.print_word(numbers.word());
-                numbers.outcome(printed)?;
-            }
-            if numbers.is_waited_for() {
-                self.flush()?;
-            }
+        if numbers.is_waited_for() {
+            to_output(output.flush())?;
         }
-        self.flush()
     }
-
-    // Prints the documents that a word names.
-    fn print_word(&mut self, word: &str) -> Result<(), FailureCause> {
-        check_id_word(self.alloc, word)?;
-        let range = range_of(self.alloc, word)?;
-        self.print(range)
-    }
-
-    // Hands over what was printed.
-    fn flush(&mut self) -> Result<(), FailureCause>
-        ensures { Keeps (W.contents self.old.output.now) (W.contents self.new.output.now) }
-    {
-        to_output(self.output.flush())
-    }
+    to_output(output.flush())
 }
 
 // The ranges that words name.
-fn named_ranges(alloc: Global, words: &[&str]) -> Result<Vec<IdRange>, FailureCause> {
+fn named_ranges(alloc: Global, words: &[&str]) -> Result<Vec<IdRange>, FailureCause>
+    ensures { IfOk result (λ ranges. map (λ word. range_named word.now) words.now ≡ map Some ranges.items) }
+{
     for word in words {
         check_id_word(alloc, word)?;
     }
     Ok(ranges_of(alloc, words)?)
+}
+
+/// Prints the documents that words name of the store at a path. An Ok says that the output has exactly these more: those
+/// of the range that each word names, in the order of the words.
+pub fn print_named<S: SystemFiles, W: Write>(
+    alloc: Global,
+    system: &S,
+    store: StorePath<'_>,
+    form: DocumentForm,
+    words: &[&str],
+    output: &mut W,
+) -> Result<(), FailureCause>
+    ensures { IsTrue S.honest → (d n : List ℕ) → IsPath d n store.entry.path.now → OnOk result ((reader : Reading)
+        × IsReaderOf store.entry.is_tantivy (seen (replay (S.changes system.now d) (S.start d)) n) reader
+        × PrintsWords form reader words.now (W.contents output.old) (W.contents output.new)) }
+{
+    let ranges = named_ranges(alloc, words)?;
+    let mut reader = store.reader(alloc, system)?;
+    print_all(alloc, &mut *reader, form, output, &ranges)
 }
 
 // Prints the documents that words name, or those whose numbers are in the standard input.
@@ -139,19 +163,12 @@ fn print<S: SystemFiles>(
     words: &[&str],
 ) -> Result<(), FailureCause> {
     let alloc = rt.alloc();
-    let is_listed = matches!(words, ["-"]);
-    let ranges = named_ranges(alloc, if is_listed { NO_WORDS } else { words })?;
     let mut output = standard_output(rt)?;
-    let mut printer = Printer {
-        alloc,
-        reader: store.reader(alloc, system)?,
-        output: &mut output,
-        form,
-    };
-    match is_listed {
-        true => printer.print_listed(rt.reader()),
-        false => printer.print_all(&ranges),
+    if !is_listed(words) {
+        return print_named(alloc, system, store, form, words, &mut output);
     }
+    let mut reader = store.reader(alloc, system)?;
+    print_listed(alloc, &mut *reader, form, &mut output, rt.reader())
 }
 
 /// Prints the documents.
@@ -160,12 +177,9 @@ pub fn run<S: SystemFiles>(
     system: &S,
     matches: &ArgMatches<'_>,
 ) -> Result<(), Failure> {
+    let alloc = rt.alloc();
     let store = store_path(rt, matches)?;
-    let form = form_of(rt.alloc(), matches)?;
-    let words = matches.get_strs("ID").unwrap_or(NO_WORDS);
-    with_file(
-        rt.alloc(),
-        store.path,
-        print(rt, system, store, form, words),
-    )
+    let form = form_of(alloc, matches)?;
+    let words = matches.get_strs("ID").unwrap_or(&[]);
+    with_file(alloc, store.path, print(rt, system, store, form, words))
 }

@@ -1,6 +1,6 @@
 //! `pack`: writes a store of the documents of files or of the standard input.
 
-ghost use Rattle.std.specs.Prelude.{◌≡◌, map, IfOk, IsOk, IsTrue, string_bytes};
+ghost use Rattle.std.specs.Prelude.{◌≡◌, map, IfOk, IsOk, IsTrue, None, OnOk, string_bytes};
 ghost use Rattle.document_framing.specs.Feeding.{all_documents};
 ghost use Rattle.document_framing.specs.Inputs.{inputs_of};
 ghost use Rattle.framed_stores.specs.Packing.{ArePacked};
@@ -14,15 +14,14 @@ use framed_stores::{PackError, PackedInputs};
 use program_base::arguments::{self, framing_of, shape_of};
 use program_base::command_words::{Argument, command_of};
 use program_base::failure::{Failure, FailureCause, with_file};
-use program_base::input_files::{
-    files_from, input_failure, inputs, list_of, names_of, null, unnamed_words, words_of,
-};
+use program_base::input_files::{INPUT, InputList, files_from, input_failure, inputs, null};
 use program_base::input_progress::InputProgress;
 use program_base::output_path::{OutputPath, output_of};
+use program_base::store_file::OpenReader;
 use program_base::store_output::{Outcome, OutputPlace, end_output, output_place};
 use std::alloc::{AllocError, Global};
 use store_commands::StoreShape;
-use store_files::SystemFiles;
+use store_files::{DiskFile, ReadAt, SystemFiles};
 use store_published::FillError;
 
 const EXAMPLE: &str = "\
@@ -53,6 +52,9 @@ pub fn command<'a>(alloc: Global) -> Result<Command<'a>, AllocError> {
     )
 }
 
+// How many bytes of a store that documents are appended to are in memory at a time.
+const PART_BYTES: usize = 1 << 22;
+
 /// The help of the option for an expected number of documents.
 pub const EXPECT_HELP: &str =
     "Write nothing unless exactly COUNT documents come; else an input that ends early is not noticed";
@@ -68,7 +70,7 @@ pub struct PackingOptions {
 
 impl PackingOptions {
     /// By the words.
-    pub fn of(alloc: Global, matches: &ArgMatches<'_>) -> Result<PackingOptions, Failure> {
+    pub fn of(alloc: Global, matches: &ArgMatches<'_>) -> Result<PackingOptions, FailureCause> {
         Ok(PackingOptions {
             framing: framing_of(alloc, matches)?,
             expected: matches.get_one::<u64>("expect"),
@@ -77,32 +79,16 @@ impl PackingOptions {
     }
 }
 
-/// The documents of these inputs, as what fills a store.
-pub fn packed_inputs<'a, 'p, 'w, F: InputFiles + Drop>(
-    rt: &'a HostRuntime,
-    files: F,
-    paths: &'p [&'w str],
-    options: PackingOptions,
-) -> PackedInputs<'p, 'w, F, InputProgress<'a>>
-    ensures framing { result.framing ≡ options.framing }
-    ensures files { result.files ≡ files }
-    ensures paths { result.paths.now ≡ paths.now }
-    ensures expected { result.expected ≡ options.expected }
-{
-    PackedInputs {
-        alloc: rt.alloc(),
-        framing: options.framing,
-        files,
-        paths,
-        expected: options.expected,
-        progress: InputProgress::begin(rt, options.is_quiet, "documents", options.framing, paths),
-    }
-}
-
-/// The failure of documents of these inputs that did not all come into the store of this name.
-pub fn failure_of(alloc: Global, out: &str, paths: &[&str], error: PackError) -> Failure {
+// The failure of documents of these inputs that did not all come into the store of this name.
+fn failure_of<F: ReadAt>(
+    alloc: Global,
+    out: &str,
+    paths: &[&str],
+    error: PackError<DiskFile<F>>,
+) -> Failure {
     let cause = match error {
         PackError::Input(fault) => return input_failure(alloc, paths, fault),
+        PackError::Copy(failure) => FailureCause::from(failure),
         PackError::Store(error) => FailureCause::Store(error),
         PackError::OtherCount { expected, came } => FailureCause::OtherCount {
             things: "documents",
@@ -114,7 +100,12 @@ pub fn failure_of(alloc: Global, out: &str, paths: &[&str], error: PackError) ->
 }
 
 // What packing came to, where its failure has a name.
-fn named(alloc: Global, out: &str, paths: &[&str], outcome: Outcome<PackError>) -> Outcome<Failure>
+fn named<F: ReadAt>(
+    alloc: Global,
+    out: &str,
+    paths: &[&str],
+    outcome: Outcome<PackError<DiskFile<F>>>,
+) -> Outcome<Failure>
     ensures { IsOk result → IsOk outcome }
 {
     match outcome {
@@ -125,6 +116,38 @@ fn named(alloc: Global, out: &str, paths: &[&str], outcome: Outcome<PackError>) 
         Err(FillError::Folder(error)) => Err(FillError::Folder(error)),
         Err(FillError::Store(error)) => Err(FillError::Store(error)),
     }
+}
+
+/// Publishes a store of this name, of the documents of an old one, if there is one, and then those of these inputs.
+pub fn publish_packed<S: SystemFiles, F: InputFiles + Drop>(
+    rt: &HostRuntime,
+    place: &mut OutputPlace<S>,
+    path: &str,
+    shape: StoreShape,
+    store: Option<OpenReader<S::Reader>>,
+    files: F,
+    paths: &[&str],
+    options: PackingOptions,
+) -> Result<(), Failure>
+    ensures { IsTrue S.honest → OnOk result (IsPublished (string_bytes place.new.name)
+        (replay (S.changes place.new.folder.system place.new.folder.path) (S.start place.new.folder.path))
+        (IsStoreOf (ArePacked store options.expected (all_documents options.framing
+        (inputs_of (F.holds files) (map (λ path. path.now) paths.now)))) (λ _. Unit {0}) shape.period)) }
+{
+    let alloc = rt.alloc();
+    let mut packed = PackedInputs {
+        alloc,
+        store,
+        part_bytes: PART_BYTES,
+        framing: options.framing,
+        files,
+        paths,
+        expected: options.expected,
+        progress: InputProgress::begin(rt, options.is_quiet, "documents", options.framing, paths),
+    };
+    let outcome = place.publish(alloc, shape, &mut packed);
+    let outcome = named(alloc, path, paths, outcome);
+    end_output(rt, path, outcome, &packed.progress.line)
 }
 
 /// Packs the documents of inputs into a store, and returns the place at which it was published. An Ok says that the
@@ -140,14 +163,20 @@ pub fn pack<S: SystemFiles, F: InputFiles + Drop>(
 ) -> Result<Box<OutputPlace<S>>, Failure>
     ensures packed { IsTrue S.honest → IfOk result (λ place. IsPublished (string_bytes place.value.name)
         (replay (S.changes place.value.folder.system place.value.folder.path) (S.start place.value.folder.path))
-        (IsStoreOf (ArePacked options.expected (all_documents options.framing
+        (IsStoreOf (ArePacked None options.expected (all_documents options.framing
         (inputs_of (F.holds files) (map (λ path. path.now) paths.now)))) (λ _. Unit {0}) shape.period)) }
 {
     let mut place = output_place(rt, system, output, paths)?;
-    let mut packing = packed_inputs(rt, files, paths, options);
-    let outcome = place.publish(rt.alloc(), shape, &mut packing);
-    let outcome = named(rt.alloc(), output.path, paths, outcome);
-    end_output(rt, output.path, outcome, &packing.progress.line)?;
+    publish_packed(
+        rt,
+        &mut *place,
+        output.path,
+        shape,
+        None,
+        files,
+        paths,
+        options,
+    )?;
     Ok(place)
 }
 
@@ -162,10 +191,9 @@ pub fn run<S: SystemFiles, F: InputFiles + Drop>(
     let output = output_of(alloc, matches)?;
     let options = PackingOptions::of(alloc, matches)?;
     let shape = shape_of(alloc, matches)?;
-    let list = list_of(rt, matches)?;
-    let words = words_of(matches).unwrap_or(unnamed_words(list.is_some()));
-    let names = names_of(alloc, matches, words, list.as_deref());
-    let names = with_file(alloc, output.path, names)?;
-    drop(pack(rt, system, files, output, shape, &names, options)?);
+    let list = InputList::read(rt, matches)?;
+    let words = matches.get_strs(INPUT).unwrap_or(&[]);
+    let paths = with_file(alloc, output.path, list.paths(alloc, words))?;
+    drop(pack(rt, system, files, output, shape, &paths, options)?);
     Ok(())
 }

@@ -82,9 +82,8 @@ pub fn run<S: SystemFiles>(
     let mut findings = Findings::new();
     for path in paths {
         let store = StorePath { path, is_tantivy };
-        if let Err(cause) = print_store(rt, system, store, form) {
-            findings.add_failed(rt, path, cause)?;
-        }
+        let printed = print_store(rt, system, store, form);
+        findings.add_outcome(rt, path, printed.map(|()| true))?;
     }
     findings.result()
 }

@@ -79,16 +79,13 @@ fn verify_all<S: SystemFiles>(
             path,
             is_tantivy: verifying.is_tantivy,
         };
-        match verify(rt, system, verifying, store) {
-            Ok(is_sound) => findings.add_read(is_sound),
-            Err(cause) => findings.add_failed(rt, path, cause)?,
-        }
+        findings.add_outcome(rt, path, verify(rt, system, verifying, store))?;
     }
     Ok(findings)
 }
 
 // How the words say that stores are reported.
-fn form_of(rt: &HostRuntime, matches: &ArgMatches<'_>) -> Result<ReportForm, Failure> {
+fn form_of(rt: &HostRuntime, matches: &ArgMatches<'_>) -> Result<ReportForm, FailureCause> {
     if matches.get_flag("json") {
         return Ok(ReportForm::Json);
     }

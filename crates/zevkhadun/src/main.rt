@@ -9,6 +9,7 @@ mod words;
 
 ghost use Rattle.std.specs.Prelude.{◌≡◌, ℕ, List, [], IsTrue};
 
+use clap::error::ErrorKind;
 use clap::{ArgMatches, Error};
 use descriptors::hold_closed;
 use document_framing::{HostInputs, InputFiles};
@@ -41,7 +42,7 @@ fn run<S: SystemFiles, F: InputFiles + Drop>(
         "export" => export::run(rt, system, matches),
         "inspect" => inspect::run(rt, system, matches),
         "log" => program_logs::run(rt, system, files, matches),
-        _ => Err(wrong_words(rt.alloc(), "unknown command", name)),
+        _ => Err(Failure::from(wrong_words(rt.alloc(), "unknown command", name))),
     }
 }
 
@@ -53,8 +54,14 @@ fn end(rt: &HostRuntime, failure: &Failure) -> ExitCode {
     }
 }
 
-// Prints the help, the version, or what is wrong with the words, and returns the program's status.
+// Prints the help or the version, or reports what is wrong with the words, and returns the program's status.
 fn end_words(rt: &HostRuntime, error: &Error) -> ExitCode {
+    match error.kind() {
+        ErrorKind::DisplayHelp
+        | ErrorKind::DisplayHelpOnMissingArgumentOrSubcommand
+        | ErrorKind::DisplayVersion => {}
+        _ => return end(rt, &words::usage_failure(rt.alloc(), error)),
+    }
     match error.print(rt) {
         Err(failed) if !error.use_stderr() => {
             end(rt, &Failure::from(FailureCause::Output(failed)))

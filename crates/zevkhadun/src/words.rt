@@ -75,3 +75,35 @@ pub fn given(rt: &HostRuntime) -> Result<Vec<String>, Failure> {
 pub fn parse<'a>(alloc: Global, given: &'a [String]) -> Result<ArgMatches<'a>, Error> {
     command(alloc)?.try_get_matches_from(given)
 }
+
+// Whether a line of clap's text is of its first paragraph or a tip.
+fn is_kept(line: &str, is_first: bool) -> bool {
+    (is_first && !line.is_empty()) || line.starts_with("tip: ")
+}
+
+// What clap says, on one line: its first paragraph, and its tips.
+fn one_line(alloc: Global, text: &str) -> Result<String, AllocError> {
+    let mut said = String::new(alloc);
+    let mut is_first = true;
+    for line in text.strip_prefix("error: ").unwrap_or(text).lines() {
+        let line = line.trim();
+        is_first &= !line.is_empty();
+        if is_kept(line, is_first) {
+            said.push_str(if said.is_empty() { "" } else { " " })?;
+            said.push_str(line)?;
+        }
+    }
+    Ok(said)
+}
+
+/// The failure of words that clap refuses.
+pub fn usage_failure(alloc: Global, error: &Error) -> Failure {
+    let line = match format!(in alloc; "{error}") {
+        Ok(text) => one_line(alloc, text.as_str()),
+        Err(error) => Err(error),
+    };
+    match line {
+        Ok(line) => Failure::from(FailureCause::Words(line)),
+        Err(error) => Failure::from(error),
+    }
+}
