@@ -83,7 +83,7 @@ class SeveralStores(ProgramCase):
         return {"user": NOBODY, "group": NOBODY, "extra_groups": []} if os.geteuid() == 0 else {}
 
     def test_a_missing_file_ends_with_3_after_the_others(self):
-        for command, wanted in (("stat", "20,000"), ("verify", "a.store: sound: 20000 documents")):
+        for command, wanted in (("stat", "20000"), ("verify", "a.store: sound: 20000 documents")):
             with self.subTest(command):
                 status, lines, errors = self.run_over(command, "gone", "a.store")
                 self.assertEqual(status, 3, errors)

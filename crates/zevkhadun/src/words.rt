@@ -76,9 +76,13 @@ pub fn parse<'a>(alloc: Global, given: &'a [String]) -> Result<ArgMatches<'a>, E
     command(alloc)?.try_get_matches_from(given)
 }
 
-// Whether a line of clap's text is of its first paragraph or a tip.
-fn is_kept(line: &str, is_first: bool) -> bool {
-    (is_first && !line.is_empty()) || line.starts_with("tip: ")
+// What stands before a line of clap's text that is kept: it is of the first paragraph, or a tip.
+fn separator_before(line: &str, is_first: bool, is_begun: bool) -> Option<&'static str> {
+    match (is_first, line.starts_with("tip: ")) {
+        (true, _) => Some(if is_begun { " " } else { "" }),
+        (false, true) => Some("; "),
+        (false, false) => None,
+    }
 }
 
 // What clap says, on one line: its first paragraph, and its tips.
@@ -88,8 +92,8 @@ fn one_line(alloc: Global, text: &str) -> Result<String, AllocError> {
     for line in text.strip_prefix("error: ").unwrap_or(text).lines() {
         let line = line.trim();
         is_first &= !line.is_empty();
-        if is_kept(line, is_first) {
-            said.push_str(if said.is_empty() { "" } else { " " })?;
+        if let Some(separator) = separator_before(line, is_first, !said.is_empty()) {
+            said.push_str(separator)?;
             said.push_str(line)?;
         }
     }
