@@ -114,6 +114,6 @@ last_run period cs one small h some =
       last = last_start_any 0 (last_start 0 e.before) e.run e.some ∙ sym (last_start-append 0 e.before e.run) ∙ ap (last_start 0) (sym e.parts);
     }
 
--- a checkpoint takes a byte
-pub no_longer : (period : ℕ) (cs : List Checkpoint) → 1 ≤ period → length cs ≤ length (layer_text period cs)
+-- a checkpoint takes two bytes
+pub no_longer : (period : ℕ) (cs : List Checkpoint) → 1 ≤ period → 2 * length cs ≤ length (layer_text period cs)
 no_longer period cs one = omega (arith, length-texts-ge (groups period cs), ap length (groups_joined period cs one))

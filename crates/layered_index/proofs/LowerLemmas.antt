@@ -58,7 +58,7 @@ small_left period height place ends texts cs fits e =
     let ts = lower_texts period height cs in
     let up = map (layer_text period) (layers_from period height cs) in
     subst (AllByRecursion (λ t. length t < 2 ^ 64)) (reverse-reverse up)
-    (all_reverse (λ t. length t < 2 ^ 64) ts (texts_fit ts (omega (arith, ap length (left_is height place ends texts ts e)))))
+    (all_reverse (λ t. length t < 2 ^ 64) ts (texts_fit (2 ^ 64) ts (omega (arith, ap length (left_is height place ends texts ts e)))))
 
 -- ---- passing over the layers above
 

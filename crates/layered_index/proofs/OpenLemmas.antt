@@ -20,9 +20,9 @@ pub all_reverse : {A : Type 0} (P : A → Type 0) (xs : List A) → AllByRecursi
 all_reverse P [] p = tt
 all_reverse {A} P (x ∷ xs) p = subst (AllByRecursion P) (sym (reverse-append (x ∷ []) xs)) (all_append P (reverse xs) (x ∷ []) (all_reverse P xs p.1) (p.0, tt))
 
-pub texts_fit : (ts : List (List ℕ)) → length (concat ts) < 2 ^ 64 → AllByRecursion (λ t. length t < 2 ^ 64) ts
-texts_fit [] fits = tt
-texts_fit (t ∷ ts) fits = (omega (arith, length-append t (concat ts)), texts_fit ts (omega (arith, length-append t (concat ts))))
+pub texts_fit : (most : ℕ) (ts : List (List ℕ)) → length (concat ts) < most → AllByRecursion (λ t. length t < most) ts
+texts_fit most [] fits = tt
+texts_fit most (t ∷ ts) fits = (omega (arith, length-append t (concat ts)), texts_fit most ts (omega (arith, length-append t (concat ts))))
 
 pub is_joined : (period : ℕ) (cs : List Checkpoint) → index_part period cs ≡ joined (texts_down period cs)
 is_joined period cs = index_parts period cs ∙ ap (λ (n : ℕ). number n ++ (flat_map number (ends_from 0 (texts_down period cs)) ++ concat (texts_down period cs))) (sym (length-texts_down period cs))
@@ -40,20 +40,20 @@ opens_read period bytes ts two small fits e are =
     let down : ts ≡ texts_down period cs = sym (reverse-reverse ts) ∙ ap reverse (read.1 ∙ ap (λ (xs : List Checkpoint). map (layer_text period) (layers period xs)) (sym same)) in
     (subst IsInLine (sym same) read.0, split.0 ∙ ap joined down ∙ sym (is_joined period cs))
 
--- the texts of an index can be addressed
-pub small_texts : (period : ℕ) (bytes : List ℕ) (cs : List Checkpoint) → length bytes < 2 ^ 64 → IsIndexPart period bytes cs
-    → AllByRecursion (λ t. length t < 2 ^ 64) (map (layer_text period) (layers period cs))
-small_texts period bytes cs fits is =
+-- the texts of an index are no longer than its bytes
+pub small_texts : (period most : ℕ) (bytes : List ℕ) (cs : List Checkpoint) → length bytes < most → IsIndexPart period bytes cs
+    → AllByRecursion (λ t. length t < most) (map (layer_text period) (layers period cs))
+small_texts period most bytes cs fits is =
     let ts = texts_down period cs in
     let up = map (layer_text period) (layers period cs) in
     let whole : bytes ≡ joined ts = is.1 ∙ is_joined period cs in
-    let size : length (concat ts) < 2 ^ 64 = omega (
+    let size : length (concat ts) < most = omega (
       arith,
       ap length whole,
       length-append (number (length ts)) (flat_map number (ends_from 0 ts) ++ concat ts),
       length-append (flat_map number (ends_from 0 ts)) (concat ts),
     ) in
-    subst (AllByRecursion (λ t. length t < 2 ^ 64)) (reverse-reverse up) (all_reverse (λ t. length t < 2 ^ 64) ts (texts_fit ts size))
+    subst (AllByRecursion (λ t. length t < most)) (reverse-reverse up) (all_reverse (λ t. length t < most) ts (texts_fit most ts size))
 
 -- The texts of the index of a list in line are layers.
 pub opens_again : (period : ℕ) (bytes : List ℕ) (cs : List Checkpoint) → 2 ≤ period → period ≤ 64 → length bytes < 2 ^ 64 → IsIndexPart period bytes cs
@@ -62,7 +62,7 @@ opens_again period bytes cs two small fits is =
     let whole : bytes ≡ joined (texts_down period cs) = is.1 ∙ is_joined period cs in
     let ts = texts_down period cs in
     let same : reverse ts ≡ map (layer_text period) (layers period cs) = reverse-reverse (map (layer_text period) (layers period cs)) in
-    let texts = small_texts period bytes cs fits is in
+    let texts = small_texts period (2 ^ 64) bytes cs fits is in
     let again = above_again period cs two small is.0 texts in
     let last : last_items [] ts ≡ cs = last_is_first ts ∙ ap first_items same ∙ again.1 in (
       ap split_at whole ∙ split_again ts (omega (arith, length-texts_down period cs, few_layers period cs two texts)) (omega (arith, ap length whole)),

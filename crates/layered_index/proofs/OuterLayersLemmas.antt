@@ -75,7 +75,7 @@ pub top_is : (period : ℕ) (bytes : List ℕ) (count : ℕ) (ends texts : List 
 top_is period bytes count ends texts cs top following more_ends more head fits some is e =
     let digits = head_digits period bytes count ends texts cs head is in
     let left = lower_first period bytes count ends texts cs head fits is in
-    let all = small_texts period bytes cs fits is in
+    let all = small_texts period (2 ^ 64) bytes cs fits is in
     let within : count - 1 ≤ digit_count period (length cs) = omega (arith, digits) in
     let filled = some_digits period (count - 1) cs (omega (arith, digits, some)) in
     let power : digit_count period (length cs) ≡ suc (count - 1) = omega (arith, digits, some) in

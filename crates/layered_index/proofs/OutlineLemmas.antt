@@ -1,14 +1,15 @@
 -- The layer of which rows are kept, and the rows.
-use Rattle.std.proofs.Common.{◌≡◌, ℕ, zero, suc, ◌+◌, ◌-◌, ◌<◌, ◌≤◌, ◌*◌, ◌^◌, inl, inr, List, [], ◌∷◌, ◌++◌, length, take, drop, map, set, Some, refl, sym, ◌∙◌, ap, subst, arith}
+use Rattle.std.proofs.Common.{◌≡◌, ℕ, zero, suc, ◌+◌, ◌-◌, ◌<◌, ◌≤◌, ◌*◌, ◌/◌, ◌^◌, inl, inr, List, [], ◌∷◌, ◌++◌, length, take, drop, map, set, Some, refl, sym, ◌∙◌, ap, subst, arith}
 use Rattle.std.proofs.Common.{drop-drop}
 use Rattle.std.proofs.Math.Nat.{pow-suc, pow-zero}
 use Rattle.std.proofs.lemmas.Bool.{cases_lt}
 use Rattle.std.proofs.lemmas.List.{length-map, length-take-le, drop-set-lt}
+use Rattle.std.specs.List.{AllByRecursion}
 use Rattle.layered_index.specs.declared.checkpoint.Checkpoint.{Checkpoint}
 use Rattle.layered_index.specs.declared.outline.LayerEnd.{LayerEnd}
 use Rattle.layered_index.specs.declared.row.Row.{Row}
 use Rattle.layered_index.specs.Checkpoint.{IsInLine}
-use Rattle.layered_index.specs.Layers.{layer_text, pointers, layer_above, digit_count}
+use Rattle.layered_index.specs.Layers.{layer_text, pointers, layer_above, layers_from, digit_count}
 use Rattle.layered_index.specs.LayerReading.{items}
 use Rattle.layered_index.specs.IndexReading.{IsIndexPart}
 use Rattle.layered_index.specs.Rows.{end_of, ends_in, ends_of, layer_at, lower_texts, AreRowsOf, AreRowsAbove, last_start, HasEnd, IsDeepest}
@@ -22,6 +23,7 @@ use Rattle.layered_index.proofs.GrowthLemmas.{groups_one}
 use Rattle.layered_index.proofs.DigitLemmas.{below_digits}
 use Rattle.layered_index.proofs.DescentLemmas.{few_above}
 use Rattle.layered_index.proofs.IndexHeadLemmas.{head_digits}
+use Rattle.layered_index.proofs.LastRunLemmas.{no_longer}
 use Rattle.layered_index.proofs.LowerLemmas.{AreSmall, IsLower, lower_first, lower_next}
 
 -- ---- rows written
@@ -114,33 +116,35 @@ passed_next period left place ends texts kept layer end more_ends more cs some a
 
 -- ---- passing over layers that there is room for
 
--- The last of what was passed has no more checkpoints than there is room for, and ends so.
-pub record HaveRoom (period room : ℕ) (cs : List Checkpoint) (left place : ℕ) (ends texts kept : List ℕ) (last : LayerEnd) : Type 0 where
+-- The last of what was passed has this many checkpoints, no more than there is room for, and ends so.
+pub record HaveRoom (period room : ℕ) (cs : List Checkpoint) (left place : ℕ) (ends texts kept : List ℕ) (count : ℕ) (last : LayerEnd) : Type 0 where
   pub passed : ArePassed period cs left place ends texts kept
-  pub fits : length (items 0 0 0 kept) ≤ room
+  pub counted : count ≡ length (items 0 0 0 kept)
+  pub fits : count ≤ room
   pub last_is : 0 < length cs → HasEnd (layer_at period left cs) last
 
 pub room_first : (period room : ℕ) (bytes : List ℕ) (count : ℕ) (ends texts kept : List ℕ) (cs : List Checkpoint) → IsHeaded period bytes count ends texts → length bytes < 2 ^ 64
-    → IsIndexPart period bytes cs → kept ≡ [] → HaveRoom period room cs count 0 ends texts kept (record { count = 1; start = 0 })
+    → IsIndexPart period bytes cs → kept ≡ [] → HaveRoom period room cs count 0 ends texts kept 0 (record { count = 1; start = 0 })
 room_first period room bytes count ends texts kept cs head fits is empty = record {
   passed = passed_none period bytes count ends texts kept cs head fits is empty;
-  fits = omega (arith, ap length (ap (items 0 0 0) empty ∙ items_none 0 0));
+  counted = sym (ap length (ap (items 0 0 0) empty ∙ items_none 0 0));
+  fits = omega arith;
   last_is = λ some. subst (λ (n : ℕ). (length (layer_at period n cs) ≡ 1) × (last_start 0 (layer_at period n cs) ≡ 0)) (sym (head_digits period bytes count ends texts cs head is))
       (above_top period cs head.two some);
 }
 
 -- where no more are passed, the last of them is the deepest
-pub passed_last : (period room : ℕ) (bytes : List ℕ) (left place : ℕ) (ends texts kept : List ℕ) (last : LayerEnd) (cs : List Checkpoint) → 2 ≤ period → period ≤ 64 → length bytes < 2 ^ 64
+pub passed_last : (period room : ℕ) (bytes : List ℕ) (left place : ℕ) (ends texts kept : List ℕ) (count : ℕ) (last : LayerEnd) (cs : List Checkpoint) → 2 ≤ period → period ≤ 64 → length bytes < 2 ^ 64
     → IsIndexPart period bytes cs
-    → HaveRoom period room cs left place ends texts kept last → (0 < left → room < length (layer_at period (left - 1) cs)) → IsDeepest period room cs left (items 0 0 0 kept)
-passed_last period room bytes left place ends texts kept last cs two small fits is are more =
+    → HaveRoom period room cs left place ends texts kept count last → (0 < left → room < length (layer_at period (left - 1) cs)) → IsDeepest period room cs left (items 0 0 0 kept)
+passed_last period room bytes left place ends texts kept count last cs two small fits is are more =
     let one : 1 ≤ period = omega arith in
-    let line = at_in_line period left (digit_count period (length cs)) cs one small are.passed.within is.0 (small_texts period bytes cs fits is) in
+    let line = at_in_line period left (digit_count period (length cs)) cs one small are.passed.within is.0 (small_texts period (2 ^ 64) bytes cs fits is) in
     record {
       within = are.passed.within;
       is = λ lt. ap (items 0 0 0) (are.passed.is lt) ∙ items_layer period (layer_at period left cs) one small line;
       none = λ e. ap (items 0 0 0) (are.passed.none e) ∙ items_none 0 0;
-      fits = are.fits;
+      fits = omega (arith, are.counted, are.fits);
       last = more;
     }
 
@@ -149,14 +153,15 @@ abbrev pub EndsBelow : ℕ → List ℕ → LayerEnd → LayerEnd → Type 0
 EndsBelow period layer above last = (xs : List Checkpoint) → IsInLine xs → 0 < length xs → layer ≡ layer_text period xs → HasEnd (layer_above period xs) above → HasEnd xs last
 
 -- the next layer
-module _ (period room : ℕ) (bytes : List ℕ) (left place : ℕ) (ends texts kept layer : List ℕ) (end : ℕ) (more_ends more : List ℕ) (above last : LayerEnd) (cs : List Checkpoint) (two : 2 ≤ period)
-    (small : period ≤ 64) (fits : length bytes < 2 ^ 64) (is : IsIndexPart period bytes cs) (left_some : 0 < left) (are : HaveRoom period room cs left place ends texts kept above)
-    (next : next_layer place ends texts ≡ Some (layer, end, more_ends, more)) (ends_below : EndsBelow period layer above last) where
+module _ (period room : ℕ) (bytes : List ℕ) (left place : ℕ) (ends texts kept layer : List ℕ) (end : ℕ) (more_ends more : List ℕ) (count : ℕ) (above last : LayerEnd) (cs : List Checkpoint)
+    (two : 2 ≤ period) (small : period ≤ 64) (fits : length bytes < 2 ^ 64) (is : IsIndexPart period bytes cs) (left_some : 0 < left)
+    (are : HaveRoom period room cs left place ends texts kept count above) (next : next_layer place ends texts ≡ Some (layer, end, more_ends, more))
+    (ends_below : EndsBelow period layer above last) where
   abbrev this : List Checkpoint
   this = layer_at period (left - 1) cs
 
   line : IsInLine this
-  line = at_in_line period (left - 1) (digit_count period (length cs)) cs (omega arith) small (omega (arith, are.passed.within)) is.0 (small_texts period bytes cs fits is)
+  line = at_in_line period (left - 1) (digit_count period (length cs)) cs (omega arith) small (omega (arith, are.passed.within)) is.0 (small_texts period (2 ^ 64) bytes cs fits is)
 
   on : IsLower period (left - 1) cs layer end more_ends more
   on = lower_next period left place ends texts layer end more_ends more cs left_some are.passed.lower next
@@ -173,12 +178,36 @@ module _ (period room : ℕ) (bytes : List ℕ) (left place : ℕ) (ends texts k
   next_is_longer more_than = omega (arith, more_than, end_is.0)
 
   -- it is passed
-  pub room_next : last.count ≤ room → HaveRoom period room cs (left - 1) end more_ends more layer last
+  pub room_next : last.count ≤ room → HaveRoom period room cs (left - 1) end more_ends more layer last.count last
   room_next few = record {
     passed = passed_next period left place ends texts kept layer end more_ends more cs left_some are.passed next;
-    fits = omega (arith, few, ap length (ap (items 0 0 0) on.text ∙ items_layer period this (omega arith) small line), end_is.0);
+    counted = sym (ap length (ap (items 0 0 0) on.text ∙ items_layer period this (omega arith) small line) ∙ end_is.0);
+    fits = few;
     last_is = λ _. end_is;
   }
+
+-- ---- where there is room for half as many as there are bytes
+
+at_fits : (period most height count : ℕ) (cs : List Checkpoint) → height < count → AllByRecursion (λ t. length t < most) (map (layer_text period) (layers_from period count cs))
+    → length (layer_text period (layer_at period height cs)) < most
+at_fits period most zero zero cs lt all = absurd (omega arith)
+at_fits period most zero (suc count) cs lt all = all.0
+at_fits period most (suc height) zero cs lt all = absurd (omega arith)
+at_fits period most (suc height) (suc count) cs lt all = at_fits period most height count (layer_above period cs) (omega arith) all.1
+
+-- the bottom layer is the deepest
+pub bottom_fits : (period : ℕ) (bytes : List ℕ) (height : ℕ) (cs layer : List Checkpoint) → 2 ≤ period → IsIndexPart period bytes cs → IsDeepest period (length bytes / 2) cs height layer → layer ≡ cs
+bottom_fits period bytes zero cs layer two is deepest = elim (cases_lt 0 (digit_count period (length cs))) [
+  | inl lt ↦ deepest.is lt
+  | inr le ↦
+      let none : digit_count period (length cs) ≡ 0 = omega (arith, le) in
+      deepest.none (sym none) ∙ sym (no_layers period cs two none)
+]
+bottom_fits period bytes (suc height) cs layer two is deepest =
+    let one_up : suc height - 1 ≡ height = omega arith in
+    let longer = subst (λ (n : ℕ). length bytes / 2 < length (layer_at period n cs)) one_up (deepest.last (omega arith)) in
+    let text = at_fits period (suc (length bytes)) height (digit_count period (length cs)) cs (omega (arith, deepest.within)) (small_texts period (suc (length bytes)) bytes cs (omega arith) is) in
+    absurd (omega (arith, longer, text, no_longer period (layer_at period height cs) (omega arith)))
 
 -- ---- the rows of the layer
 

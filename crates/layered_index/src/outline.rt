@@ -1,9 +1,9 @@
 //! Rows of the deepest layer that a caller has room for.
-ghost use Rattle.std.specs.Prelude.{◌≡◌, ◌<◌, ◌≤◌, ◌-◌, List, length, take, drop, IfOk, IfErr, IsOkAnd};
+ghost use Rattle.std.specs.Prelude.{◌≡◌, ◌<◌, ◌≤◌, ◌-◌, ◌*◌, List, length, take, drop, IfOk, IfErr, IsOkAnd};
 ghost use Rattle.layered_index.specs.declared.checkpoint.Checkpoint.{Checkpoint};
 ghost use Rattle.layered_index.specs.Checkpoint.{IsInLine};
 ghost use Rattle.layered_index.specs.Layers.{layer_text, layer_above, digit_count};
-ghost use Rattle.layered_index.specs.IndexReading.{IsIndexPart};
+ghost use Rattle.layered_index.specs.IndexReading.{IsIndexPart, HasIndex};
 ghost use Rattle.layered_index.specs.LayerReading.{items};
 ghost use Rattle.layered_index.specs.Rows.{AreRowsOf, AreRowsAbove, HasEnd, IsDeepest, layer_at};
 
@@ -26,6 +26,14 @@ pub struct Outline {
 pub(crate) struct LayerEnd {
     pub count: usize,
     pub start: usize,
+}
+
+// The lowest layer that there is room for: how many layers lie below it, its bytes, and how many checkpoints it has.
+#[derive(Clone, Copy)]
+struct Deepest<'a> {
+    height: usize,
+    layer: &'a [u8],
+    count: usize,
 }
 
 // The end of a layer, by that of the layer above it, whose last checkpoint points to the last run. It decodes at most a
@@ -70,32 +78,41 @@ pub(crate) fn fill(checkpoints: LayerCursor<'_>, rows: &mut [Row]) -> usize
 }
 
 impl<'a> IndexSlice<'a> {
-    // The bytes of the lowest layer that has no more checkpoints than there is room for, from the top down, and how
-    // many layers lie below it. It is none where the top layer has more. It decodes of each layer the last run.
-    fn deepest(&self, room: usize) -> Result<(usize, &'a [u8]), StoreError>
+    // The lowest layer that has no more checkpoints than there is room for, from the top down. It has no bytes where
+    // the top layer has more. It decodes of each layer the last run.
+    fn deepest(&self, room: usize) -> Result<Deepest<'a>, StoreError>
         ensures answer { (cs : List Checkpoint) → IsIndexPart self.now.period self.now.bytes cs
-            → IsOkAnd result (λ x. IsDeepest self.now.period room cs x.0 (items 0 0 0 x.1.now)) }
-        ensures few { IfOk result (λ x. x.0 ≤ 64) }
+            → IsOkAnd result (λ x. IsDeepest self.now.period room cs x.height (items 0 0 0 x.layer.now)) }
+        ensures counted { (cs : List Checkpoint) → IsIndexPart self.now.period self.now.bytes cs
+            → IfOk result (λ x. x.count ≡ length (items 0 0 0 x.layer.now)) }
+        ensures fits { IfOk result (λ x. x.count ≤ room) }
+        ensures few { IfOk result (λ x. x.height ≤ 64) }
         ensures refused { IfErr result (λ e. e ≡ StoreError.BadIndex) }
     {
         let period = self.period as usize;
-        let mut deepest: &'a [u8] = &self.texts[..0];
+        let mut deepest = Deepest {
+            height: self.count,
+            layer: &self.texts[..0],
+            count: 0,
+        };
         // A layer above the top one would have a checkpoint that points to its only run.
         let mut layer_end = LayerEnd { count: 1, start: 0 };
-        let mut left = self.count;
         let mut place = 0;
         let mut ends = self.ends;
         let mut texts = self.texts;
-        while left > 0 {
+        while deepest.height > 0 {
             let Some((layer, end, more_ends, more)) = next_layer(place, ends, texts) else {
                 return Err(StoreError::BadIndex);
             };
             layer_end = end_below(period, layer, layer_end);
             if layer_end.count > room {
-                return Ok((left, deepest));
+                return Ok(deepest);
             }
-            left -= 1;
-            deepest = layer;
+            deepest = Deepest {
+                height: deepest.height - 1,
+                layer,
+                count: layer_end.count,
+            };
             place = end;
             ends = more_ends;
             texts = more;
@@ -103,7 +120,19 @@ impl<'a> IndexSlice<'a> {
         if !texts.is_empty() {
             return Err(StoreError::BadIndex);
         }
-        Ok((0, deepest))
+        Ok(deepest)
+    }
+
+    /// How many checkpoints there are, if the bytes are an index. It decodes of each layer the last run. It never says
+    /// more than half as many as there are bytes, since a checkpoint takes two.
+    pub(crate) fn told_len(&self) -> Result<usize, StoreError>
+        ensures answer { (cs : List Checkpoint) → IsIndexPart self.now.period self.now.bytes cs
+            → IsOkAnd result (λ n. n ≡ length cs) }
+        ensures most { IfOk result (λ n. 2 * n ≤ length self.now.bytes) }
+        ensures refused { IfErr result (λ e. (e ≡ StoreError.BadIndex)
+            × (HasIndex self.now.period self.now.bytes → ⊥)) }
+    {
+        Ok(self.deepest(self.bytes.len() / 2)?.count)
     }
 
     /// Fills the front of the rows with those of the lowest layer that has no more checkpoints than there are rows, and
@@ -125,12 +154,12 @@ impl<'a> IndexSlice<'a> {
         ensures refused { IfErr result (λ e. (e ≡ StoreError.BadIndex) × (rows.new ≡ rows.old)) }
     {
         let _ = &self.period;
-        let (height, layer) = self.deepest(rows.len())?;
-        let count = fill(LayerCursor::new(layer), rows);
+        let deepest = self.deepest(rows.len())?;
+        let count = fill(LayerCursor::new(deepest.layer), rows);
         write_guides(&mut rows[..count]);
         Ok(Outline {
             rows: count,
-            height,
+            height: deepest.height,
         })
     }
 }

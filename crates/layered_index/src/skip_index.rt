@@ -1,5 +1,5 @@
 //! The layered skip index of a store.
-ghost use Rattle.std.specs.Prelude.{◌≡◌, ◌≤◌, ◌<◌, ◌+◌, ◌*◌, ℕ, List, length, slice_get, slice_range};
+ghost use Rattle.std.specs.Prelude.{◌≡◌, ◌≤◌, ◌<◌, ◌+◌, ◌*◌, ℕ, length, slice_get, slice_range};
 ghost use Rattle.std.specs.Prelude.{IfOk, IfErr, Some};
 ghost use Rattle.store_base.specs.Counts.{raised};
 ghost use Rattle.layered_index.specs.declared.checkpoint.Checkpoint.{Checkpoint};
@@ -8,7 +8,7 @@ ghost use Rattle.layered_index.specs.Covering.{covered_to};
 ghost use Rattle.layered_index.specs.Layers.{Index, digit_count, index_part};
 ghost use Rattle.layered_index.specs.IndexReading.{IsIndexPart, HasIndex};
 ghost use Rattle.layered_index.specs.Refusal.{RefusesOnlyUnless};
-ghost use Rattle.layered_index.specs.Rows.{AreRowsOf, ends_in, start_in, checkpoints_from};
+ghost use Rattle.layered_index.specs.Rows.{ends_in, start_in, checkpoints_from};
 
 use crate::checkpoint::{CHECKPOINT_PERIOD, Checkpoint, USUAL_PERIOD};
 use crate::checkpoint_range::CheckpointRange;
@@ -20,7 +20,7 @@ use crate::row_guide::{guess, write_guides};
 use std::alloc::Global;
 use std::marker::Model;
 use std::ops::Range;
-use store_base::{DocId, NoMemory, OwnedBytes, StoreError};
+use store_base::{DocId, OwnedBytes, StoreError};
 
 /// The checkpoints of a store, found by document. It keeps the bytes of the index, and a row for each checkpoint.
 #[derive(Drop)]
@@ -87,37 +87,6 @@ fn checkpoint_at(start: RowEnd, rows: &[Row], at: usize) -> Checkpoint
     }
 }
 
-// The rows of these checkpoints, of which there are `count`.
-fn rows_of(alloc: Global, checkpoints: LayerCursor<'_>, count: usize) -> Result<Vec<Row>, NoMemory>
-    ensures { IfOk result (λ rows. AreRowsOf checkpoints.entry rows.items) }
-{
-    let mut rows = Vec::with_capacity(alloc, count)?;
-    for checkpoint in checkpoints {
-        rows.push(Row::new(RowEnd {
-            end_doc: checkpoint.doc_range.end,
-            end_byte: checkpoint.byte_range.end,
-        }))?;
-    }
-    Ok(rows)
-}
-
-// Where the checkpoints of an index begin, and their rows with guides; there are `count` of them.
-fn read_rows(
-    alloc: Global,
-    index: &IndexSlice<'_>,
-    count: usize,
-) -> Result<(RowEnd, Vec<Row>), StoreError>
-    requires { HasIndex index.now.period index.now.bytes }
-    ensures read { (cs : List Checkpoint) → IsIndexPart index.now.period index.now.bytes cs
-        → IfOk result (λ x. checkpoints_from x.0 (ends_in x.1.items) ≡ cs) }
-    ensures refused { IfErr result (λ e. e ≡ StoreError.Memory) }
-{
-    let start = start_of(index.checkpoints()?);
-    let mut rows = rows_of(alloc, index.checkpoints()?, count)?;
-    write_guides(&mut rows);
-    Ok((start, rows))
-}
-
 // Looks at the checkpoints of an index, counted.
 #[derive(Drop)]
 struct IndexLooks<'a> {
@@ -166,10 +135,13 @@ impl SkipIndex {
         ensures refused { IfErr result (RefusesOnlyUnless (HasIndex period source)) }
     {
         let index = IndexSlice::new(source.as_slice(), period)?;
-        let Ok(checked) = index.check(&mut []) else {
+        let count = index.told_len()?;
+        let mut rows = vec![in alloc; Row::new(RowEnd::ZERO); count]?;
+        let Ok(checked) = index.check(&mut rows) else {
             return Err(StoreError::BadIndex);
         };
-        let (start, rows) = read_rows(alloc, &index, checked.count)?;
+        write_guides(&mut rows);
+        let start = start_of(index.checkpoints()?);
         Ok(SkipIndex {
             period,
             source,

@@ -5,11 +5,13 @@ use Rattle.layered_index.proofs.OutlineLemmas.{HaveRoom}
 use Rattle.layered_index.proofs.index_slice.IndexSlice.deepest.Given as goal
 
 -- the layers down to those that are left were passed, if the bytes are an index
-abbrev pub invariant-loop-left : goal.invariant-loop-left
-invariant-loop-left l = record {
-  few : l.left ≤ 64;
-  passed : (cs : List Checkpoint) → IsIndexPart l.self.period l.self.bytes cs → HaveRoom l.self.period l.room cs l.left l.place l.ends l.texts l.deepest l.layer_end;
+abbrev pub invariant-loop-deepest : goal.invariant-loop-deepest
+invariant-loop-deepest l = record {
+  few : l.deepest.height ≤ 64;
+  fits : l.deepest.count ≤ l.room;
+  passed : (cs : List Checkpoint) → IsIndexPart l.self.period l.self.bytes cs
+      → HaveRoom l.self.period l.room cs l.deepest.height l.place l.ends l.texts l.deepest.layer.now l.deepest.count l.layer_end;
 }
 
-abbrev pub decreases-loop-left : goal.decreases-loop-left
-decreases-loop-left l = l.left
+abbrev pub decreases-loop-deepest : goal.decreases-loop-deepest
+decreases-loop-deepest l = l.deepest.height
