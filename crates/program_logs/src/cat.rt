@@ -85,8 +85,8 @@ fn print_from<F: ReadableFolder, W: Write>(
     Ok(from.max(end))
 }
 
-/// Prints the last records of the log at a path, this many at most, from a number on, and returns the number after them.
-/// An Ok says that the output has exactly these more.
+/// Prints the last records of the log at a path, this many at most, from a number on, and returns the number after
+/// them. An Ok says that the output has exactly these more.
 pub fn print<S: SystemFiles, W: Write>(
     logs: &ReadLogs<'_, S>,
     path: &str,

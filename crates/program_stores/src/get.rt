@@ -71,8 +71,8 @@ fn print_one<F: ReadAt, W: Write>(
     with_reason(reader, printed.map_err(FailureCause::from))
 }
 
-// Prints the documents of each range, one range after the other. Where the file is honest, an Ok says that exactly these
-// came.
+// Prints the documents of each range, one range after the other. Where the file is honest, an Ok says that exactly
+// these came.
 fn print_all<F: ReadAt, W: Write>(
     alloc: Global,
     reader: &mut OpenReader<F>,
@@ -135,8 +135,8 @@ fn named_ranges(alloc: Global, words: &[&str]) -> Result<Vec<IdRange>, FailureCa
     Ok(ranges_of(alloc, words)?)
 }
 
-/// Prints the documents that words name of the store at a path. An Ok says that the output has exactly these more: those
-/// of the range that each word names, in the order of the words.
+/// Prints the documents that words name of the store at a path. An Ok says that the output has exactly these more:
+/// those of the range that each word names, in the order of the words.
 pub fn print_named<S: SystemFiles, W: Write>(
     alloc: Global,
     system: &S,

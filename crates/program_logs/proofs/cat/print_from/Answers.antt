@@ -10,7 +10,7 @@ returns g c honest first all at =
     let end_is : c.end-end.result ≡ first + length all = c.end-end.ensures.end honest first all at in
     let start_is : c.max.result ≡ max c.args.from first = search rules in
     let printed : OnOk c.print_records.result
-        (PrintsRecords c.args.form first all c.max.result (c.end-end.result - c.max.result) (out c.args.output.now) (out c.print_records.new.output)) =
+    (PrintsRecords c.args.form first all c.max.result (c.end-end.result - c.max.result) (out c.args.output.now) (out c.print_records.new.output)) =
     c.print_records.ensures.printed honest first all at in
     let here : PrintsRecords c.args.form first all c.max.result (c.end-end.result - c.max.result) (out c.args.output.now) (out c.print_records.new.output) =
     search rules in
