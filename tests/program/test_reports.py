@@ -25,6 +25,12 @@ class Stat(ProgramCase):
         found = json.loads(self.program.gives("stat", "--json", "a.store"))
         self.assertEqual((found["file_bytes"], found["document_bytes"]), (size, documents))
 
+    def test_each_three_digits_of_a_line_have_a_comma_before_them(self):
+        for size, shown in ((0, "0"), (999, "999"), (1000, "1,000"), (100_020, "100,020"), (1_000_005, "1,000,005")):
+            self.pack("a.store", b"a" * size, "--framing", "files")
+            self.program.prints(f"document bytes +{shown}$", "stat", "a.store")
+            self.program.prints(f'"document_bytes":{size},', "stat", "--json", "a.store")
+
     def test_several_stores_are_a_table(self):
         sizes = [len(self.pack(name, text)) for name, text in (("a.store", NUMBERS), ("none.store", b""))]
         heads, first, second = self.program.gives("stat", "a.store", "none.store").decode().splitlines()

@@ -1,6 +1,6 @@
 //! `log cat`: prints all records in order.
 
-ghost use Rattle.std.specs.Prelude.{◌+◌, ◌-◌, ℕ, List, IsTrue, OnOk, length, max};
+ghost use Rattle.std.specs.Prelude.{◌≡◌, ◌+◌, ◌-◌, ℕ, List, IfOk, IsTrue, OnOk, length, max};
 ghost use Rattle.framed_logs.specs.Reading.{PrintsFrom};
 ghost use Rattle.segmented_log.specs.Log.{IsLog};
 ghost use Rattle.store_files.specs.Disk.{replay, seen};
@@ -75,8 +75,10 @@ fn print_from<F: ReadableFolder, W: Write>(
     from: u64,
     output: &mut W,
 ) -> Result<u64, FailureCause>
-    ensures { IsTrue F.honest → (first : ℕ) (all : List Slot) → IsLog first all (F.seen read.old.folder)
+    ensures printed { IsTrue F.honest → (first : ℕ) (all : List Slot) → IsLog first all (F.seen read.old.folder)
         → OnOk result (PrintsFrom form first all from (W.contents output.old) (W.contents output.new)) }
+    ensures next { IsTrue F.honest → (first : ℕ) (all : List Slot) → IsLog first all (F.seen read.old.folder)
+        → IfOk result (λ next. next ≡ max from (first + length all)) }
 {
     let (first, end) = (read.first(), read.end());
     print_records(alloc, read, form, from.max(first), end, output).map_err(unprinted)?;
@@ -95,10 +97,13 @@ pub fn print<S: SystemFiles, W: Write>(
     most: u64,
     output: &mut W,
 ) -> Result<u64, FailureCause>
-    ensures { IsTrue S.honest → (first : ℕ) (all : List Slot)
+    ensures printed { IsTrue S.honest → (first : ℕ) (all : List Slot)
         → IsLog first all (seen (replay (S.changes logs.now.value path.now) (S.start path.now)))
         → OnOk result (PrintsFrom form first all (max from (first + length all - most))
         (W.contents output.old) (W.contents output.new)) }
+    ensures next { IsTrue S.honest → (first : ℕ) (all : List Slot)
+        → IsLog first all (seen (replay (S.changes logs.now.value path.now) (S.start path.now)))
+        → IfOk result (λ next. next ≡ max (max from (first + length all - most)) (first + length all)) }
 {
     let mut read = logs.open_to_read(path)?;
     let from = from.max(read.end().saturating_sub(most));
