@@ -18,8 +18,8 @@ PARTS = ("src", "specs", "proofs")
 LINE = re.compile(r"^(\w+)((?: \w+)*):(.*)$", re.M)
 # The seconds after which a library that another process makes is whole.
 SETTLED = 10
-# A function that has a proof of its own, by its path.
-FUNCTION = re.compile(r"\w+(?:::(?!fn::)\w+)+")
+# The path below its crate of a function that can have a proof of another.
+PLAIN = re.compile(r"\w+(?:::(?!fn::)\w+)*")
 
 
 @functools.cache
@@ -56,11 +56,10 @@ class Crate:
         return all(one.is_left() and since < one.library().stat().st_mtime < time.time() - SETTLED for one in needed)
 
     def functions(self) -> Iterator[str]:
-        """The functions of the library that `rt ci` built of it, by their paths below the crate, without closures."""
+        """The functions of the library that `rt ci` built of it, by their paths below the crate."""
         code = listed()[self.name].library() / "toolchain/mir.json"
         for name, *_ in json.loads(code.read_bytes()) if code.is_file() else ():
-            if FUNCTION.fullmatch(name):
-                yield name.partition("::")[2]
+            yield name.partition("::")[2]
 
     def below(self) -> list[Crate]:
         """The libraries of the repository below it, lowest first."""

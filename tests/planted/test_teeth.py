@@ -10,6 +10,7 @@ from harness import FolderCase
 from planted.bodies import BadBody, Body, changed, function_at
 from planted.crates import PARTS, listed
 from planted.trial import Check, Trial
+from planted.unproved import without_bodies
 
 EDITS = {
     "digits_are_swapped": ("page.push(digit_of(*byte / 16))?;", "page.push(digit_of(*byte % 16))?;"),
@@ -111,6 +112,16 @@ class Words(unittest.TestCase):
         for old in ("b", "x"):
             with self.subTest(old), self.assertRaises(BadBody):
                 changed("b\nb\n", ((old, "c"),))
+
+    def test_a_function_of_another_name_has_no_body(self):
+        given = without_bodies(SOURCE, {"next", "title"})
+        for line in ("        None", "            note(byte);", "    pub fn first() {}", "const MOST: usize = 3;"):
+            with self.subTest(line):
+                self.assertIn(f"{line}\n", given)
+        for line in ("        Fault", "        self.copied + 1", "        first();"):
+            with self.subTest(line):
+                self.assertNotIn(f"{line}\n", given)
+        self.assertEqual(given.count("        loop {}\n"), 4)
 
     def test_a_refusal_is_of_a_contract(self):
         output = (

@@ -2,9 +2,9 @@
 
 A function is proved against the contracts of those that it calls, and not against their bodies. So a wrong body shows
 in the verdict on its own function alone, and wrong bodies of several functions are known apart. Each function that is
-as it was, but one, has a hole in the place of its proof, so that nothing of it is proved. In one round each function is
-wrong in one way at most; a body of which the check says only that its function calls one that is not proved waits for
-the next round.
+as it was, but one, has a hole in the place of its proof and a loop in the place of its body, so that nothing of it is
+proved. In one round each function is wrong in one way at most; a body of which the check says only that its function
+calls one that is not proved waits for the next round.
 """
 
 from __future__ import annotations
@@ -20,7 +20,8 @@ from dataclasses import dataclass, field
 from pathlib import Path
 
 from planted.bodies import BadBody, Body, body, changed, paths
-from planted.crates import PARTS, Crate, kit
+from planted.crates import PARTS, PLAIN, Crate, kit
+from planted.unproved import has_own_proof, leave_unproved, without_bodies
 
 # The last line of a check that came to its verdicts.
 ENDED = re.compile(r"^only=\d+ holes=\d+\n?\Z", re.M)
@@ -31,15 +32,6 @@ SEARCHED = "`search` did not prove"
 KEPT = "kept"
 # What a check says of a function whose proof it admits, where those that it calls have a hole in place of theirs.
 ADMITTED = re.compile(r"no holes|depends on a hole in `\S+\.anything`")
-# The one hole, and the proof that takes a function by its contract.
-HOLE = "pub anything : {A : Type 2} → A\nanything = ?\n"
-UNPROVED = """\
-use Rattle.{crate}.proofs.{path}.Statement.{{statement}}
-use Rattle.{crate}.proofs.Unproved.{{anything}}
-
-pub {name}_spec : {{M : Type 1}} → statement M
-{name}_spec = anything
-"""
 
 
 @dataclass(frozen=True)
@@ -181,31 +173,24 @@ class Trial:
         return f"NOT TRIED: the check says of {one.function}: {verdict.said or 'nothing'}"
 
     def check(self, room: Path, texts: dict[str, str], functions: list[str]) -> Check:
-        """Checks these functions in the copy of the crate, with other texts in some of its files."""
-        for file, text in texts.items():
-            (room / file).write_text(text, encoding="utf-8")
-        self.leave_unproved(room, functions)
+        """Checks these functions in the copy of the crate, with other texts in some of its files. All others are taken
+        by their contracts."""
+        proofs = self.crate.folder / "proofs"
+        others = [path for path in self.crate.functions() if not any(is_named(path, one) for one in functions)]
+        unproved = [path for path in others if PLAIN.fullmatch(path) and not has_own_proof(proofs, path)]
+        shutil.rmtree(room / "proofs", ignore_errors=True)
+        if proofs.is_dir():
+            shutil.copytree(proofs, room / "proofs")
+        leave_unproved(room / "proofs", self.crate.name, unproved)
+        kept = {path.rpartition("::")[2] for path in [*functions, *(path for path in others if path not in unproved)]}
+        for path in (self.crate.folder / "src").rglob("*.rt"):
+            file = str(path.relative_to(self.crate.folder))
+            text = texts.get(file) or path.read_text(encoding="utf-8")
+            (room / file).write_text(without_bodies(text, kept) if unproved else text, encoding="utf-8")
         only = [word for function in functions for word in ("--only", function)]
         words = [*self.crate.words(), "--incremental", KEPT, "--allow-holes", *only]
         command = [str(kit() / "bin/rattle"), "check", *words]
-        output, status = self.ran(room, command)
-        for file in texts:
-            shutil.copy2(self.crate.folder / file, room / file)
-        return Check(output, status)
-
-    def leave_unproved(self, room: Path, functions: list[str]) -> None:
-        """Gives every other function of the copy a proof that is a hole, so that a check takes it by its contract."""
-        proofs = room / "proofs"
-        shutil.rmtree(proofs, ignore_errors=True)
-        proofs.mkdir()
-        if (self.crate.folder / "proofs").is_dir():
-            shutil.copytree(self.crate.folder / "proofs", proofs, dirs_exist_ok=True)
-        with (proofs / "Lib.antt").open("a", encoding="utf-8") as root:
-            root.write("mod Unproved\n")
-        (proofs / "Unproved.antt").write_text(HOLE, encoding="utf-8")
-        for path in self.crate.functions():
-            if not any(is_named(path, function) for function in functions):
-                leave_unproved(proofs, self.crate.name, path)
+        return Check(*self.ran(room, command))
 
     def ran(self, room: Path, command: list[str]) -> tuple[str, int]:
         """Runs a command in a folder: what it prints, and its status. What it took of a processor is added."""
@@ -221,24 +206,13 @@ class Trial:
 
 def is_beside(path: str, bodies: list[Body]) -> bool:
     """Whether a function, and no constant, is changed by none of the bodies."""
-    return path.rpartition("::")[2].islower() and not any(is_named(path, one.function) for one in bodies)
+    name = path.rpartition("::")[2]
+    return bool(PLAIN.fullmatch(path)) and name.islower() and not any(is_named(path, one.function) for one in bodies)
 
 
 def is_named(path: str, function: str) -> bool:
     """Whether a function that a check names by its path or by the end of it may be this one."""
     return f"::{path}".endswith(f"::{function}")
-
-
-def leave_unproved(proofs: Path, crate: str, path: str) -> None:
-    """Puts a hole in the place of a function's proof, but of one that calls itself, whose proof has another place."""
-    folder = proofs / path.replace("::", "/")
-    if folder.with_name(f"+{folder.name}").is_dir():
-        return
-    folder.mkdir(parents=True, exist_ok=True)
-    for name in ("Invariants.antt", "Answers.antt"):
-        (folder / name).unlink(missing_ok=True)
-    proof = UNPROVED.format(crate=crate, path=path.replace("::", "."), name=path.rpartition("::")[2])
-    (folder / "Proof.antt").write_text(proof, encoding="utf-8")
 
 
 def together(folder: Path, bodies: list[Body], most: int = 1) -> tuple[dict[str, str], list[Body]]:
