@@ -1,13 +1,12 @@
 //! How documents are shown in an output.
 
-ghost use Rattle.std.specs.Prelude.{◌≡◌, IfOk, OnOk, string_bytes};
+ghost use Rattle.std.specs.Prelude.{◌≡◌, ◌++◌, IfOk, OnOk};
 ghost use Rattle.std.specs.Io.KnownBytes.{Appends};
-ghost use Rattle.json.specs.Print.{quoted};
-ghost use Rattle.document_framing.specs.Forms.{member, shown};
+ghost use Rattle.document_framing.specs.Forms.{line_of, member, shown};
 
 use crate::framing::Framing;
 use base64::engine::general_purpose::STANDARD;
-use serde_json::Value;
+use json::Writer;
 use std::alloc::{AllocError, Global};
 use std::io;
 use std::io::Write;
@@ -42,28 +41,37 @@ impl From<io::Error> for ShowError {
     }
 }
 
-// A text as JSON has it.
-fn quoted_text(alloc: Global, text: &str) -> Result<String, AllocError>
-    ensures { IfOk result (λ s. string_bytes s ≡ quoted text.now) }
+// How many bytes of a line are not of the document: at most twenty of them are its number.
+const LINE_BYTES: usize = 48;
+
+// Writes a document as a member of an object of JSON.
+fn write_member(alloc: Global, writer: &mut Writer, document: &[u8]) -> Result<(), AllocError>
+    ensures tokens { OnOk result (writer.new.tokens ≡ writer.old.tokens ++ member document.now) }
+    ensures before { writer.new.before ≡ writer.old.before }
 {
-    Value::try_from_str(alloc, text)?.to_string(alloc)
+    if let Ok(text) = str::from_utf8(document) {
+        writer.key("text")?;
+        return writer.string(text);
+    }
+    let encoded = STANDARD.encode(alloc, document)?;
+    writer.key("base64")?;
+    writer.string(encoded.as_str())
 }
 
-// A document as a member of an object.
-fn member_of(alloc: Global, document: &[u8]) -> Result<String, AllocError>
-    ensures { IfOk result (λ s. string_bytes s ≡ member document.now) }
+// A document of this number as an object of JSON on a line.
+fn json_line(alloc: Global, number: u64, document: &[u8]) -> Result<Vec<u8>, AllocError>
+    ensures { IfOk result (λ line. line.items ≡ line_of number document.now) }
 {
-    match str::from_utf8(document) {
-        Ok(text) => {
-            let text = quoted_text(alloc, text)?;
-            format!(in alloc; "\"text\":{text}")
-        }
-        Err(_) => {
-            let encoded = STANDARD.encode(alloc, document)?;
-            let text = quoted_text(alloc, encoded.as_str())?;
-            format!(in alloc; "\"base64\":{text}")
-        }
-    }
+    let room = document.len().saturating_add(LINE_BYTES);
+    let mut writer = Writer::new(Vec::with_capacity(alloc, room)?);
+    writer.begin_object()?;
+    writer.key("id")?;
+    writer.u64(number)?;
+    write_member(alloc, &mut writer, document)?;
+    writer.end_object()?;
+    let mut line = writer.into_inner();
+    line.push(b'\n')?;
+    Ok(line)
 }
 
 impl DocumentForm {
@@ -89,10 +97,7 @@ impl DocumentForm {
                 write!(output, "{number}\t")?;
                 framing.write(output, document)?;
             }
-            DocumentForm::Json => {
-                let member = member_of(alloc, document)?;
-                writeln!(output, "{{\"id\":{number},{member}}}")?;
-            }
+            DocumentForm::Json => output.write_all(&json_line(alloc, number, document)?)?,
         }
         Ok(())
     }
