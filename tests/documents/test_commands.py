@@ -16,8 +16,8 @@ CALLS = {
     "get": "print_named",
     "cat": "printing.print",
     "export": "export",
-    "log append": "append_inputs",
-    "log get": "print_records",
+    "log append": "append",
+    "log get": "print_named",
     "log cat": "print",
 }
 FUNCTION = re.compile(r"^( *)(?:pub )?fn (\w+).*?^\1\}", re.M | re.S)

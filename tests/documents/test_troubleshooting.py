@@ -16,11 +16,9 @@ DECLARED = (
 )
 WRITTEN = {
     "program_base/src/failure.rt": r'(?:write!\(\s*f,\s+|f\.write_str\(|FailureCause::\w+ => )"([^;"][^"]*)"',
-    "program_base/src/number_words.rt": r'"(\'\{part\}\'[^"]+)"',
     "program_logs/src/log_refusal.rt": r'(?:LogError::\w+ => \(\s*|text: )"([^"]+)"',
-    "program_logs/src/number_range.rt": r'"(\'\{word\}\'[^"]+)"',
     "program_stores/src/merge.rt": r'format!\(in alloc; "(--[^"]+)"',
-    "store_commands/src/id_range.rt": r'"(\'\{word\}\'[^"]+)"',
+    "store_commands/src/number_range.rt": r'"(\'\{word\}\'[^"]+)"',
     "store_commands/src/broken_part.rt": r'(?:f,\s+|f\.write_str\()"([^"]+)"',
     "store_commands/src/checking.rt": r'(?:f,\s+|f\.write_str\()"([^"]+)"',
 }

@@ -50,7 +50,7 @@ class LeftOut(ProgramCase):
 
     def test_a_line_that_is_no_number_is_refused(self):
         self.write("ids", b"1\nx\n")
-        self.program.fails(2, "'x' is not a document number or a range", "cat", "a.store", "--without", "@ids")
+        self.program.fails(2, "'x' is not a number or a range", "cat", "a.store", "--without", "@ids")
 
 
 class FilesFrom(ProgramCase):

@@ -1,2 +1,3 @@
+pub mod PrintedRanges
 pub mod StoresOnDisk
 pub mod WordLists

@@ -28,8 +28,6 @@ pub enum FailureCause {
         number: u64,
         text: String,
     },
-    /// A number is named that no document has.
-    NoSuchNumber(String),
     /// The words are not UTF-8.
     NoText,
     /// The system refused a call.
@@ -129,7 +127,6 @@ impl FailureCause {
             FailureCause::Store(error) => status_of(error),
             FailureCause::Request(RequestError::Store(error)) => status_of(error),
             FailureCause::Line { .. }
-            | FailureCause::NoSuchNumber(_)
             | FailureCause::InputIsOutput
             | FailureCause::Request(_)
             | FailureCause::NoTantivyTail
@@ -243,12 +240,6 @@ impl Display for FailureCause {
                 f,
                 "standard input: line {number}: {text}"
             ),
-            FailureCause::NoSuchNumber(word) => {
-                write!(
-                    f,
-                    "no document {word}; a store has at most 4294967295 documents"
-                )
-            }
             FailureCause::Store(error) => write_store_error(f, error),
             FailureCause::Request(error) => error.fmt(f),
             FailureCause::OtherCount {

@@ -13,7 +13,7 @@ pub mod input_files;
 pub mod input_progress;
 pub mod listed_numbers;
 pub mod named_numbers;
-pub mod number_words;
+pub mod numbered;
 pub mod output_path;
 pub mod progress;
 pub mod status;

@@ -3,10 +3,10 @@
 ghost use Rattle.std.specs.Prelude.{◌≡◌, ◌++◌, map, OnOk};
 ghost use Rattle.program_base.specs.WordLists.{full_lines, words_of};
 
-use crate::failure::{Failure, with_file};
-use crate::number_words::check_id_word;
+use crate::failure::{Failure, FailureCause, with_file};
 use std::alloc::{AllocError, Global};
 use std::{fs, io};
+use store_commands::number_range::range_of;
 
 /// The text of a file, or of the standard input for `-`.
 pub fn text_in(rt: &HostRuntime, path: &str) -> Result<String, Failure> {
@@ -16,6 +16,17 @@ pub fn text_in(rt: &HostRuntime, path: &str) -> Result<String, Failure> {
         fs::read_to_string(rt, path)
     };
     with_file(rt.alloc(), path, text)
+}
+
+// Fails if a part of a word between commas names no range.
+fn check_ranges(alloc: Global, word: &str) -> Result<(), FailureCause> {
+    if word.is_empty() {
+        return Ok(());
+    }
+    for part in word.split(',') {
+        let _range = range_of(alloc, part)?;
+    }
+    Ok(())
 }
 
 /// A word that names documents, or the text of the file that `@FILE` names.
@@ -30,14 +41,14 @@ impl IdWord {
     ///
     /// # Errors
     ///
-    /// Those of `check_id_word`, and that the file can't be read.
+    /// That a part of a word names no range, and that the file can't be read.
     pub fn read(rt: &HostRuntime, word: &str) -> Result<IdWord, Failure> {
         let (text, is_list) = match word.strip_prefix('@') {
             Some(path) => (text_in(rt, path)?, true),
             None => (String::from_str(rt.alloc(), word)?, false),
         };
         for line in text.as_str().lines() {
-            check_id_word(rt.alloc(), line)?;
+            check_ranges(rt.alloc(), line)?;
         }
         Ok(IdWord { text, is_list })
     }

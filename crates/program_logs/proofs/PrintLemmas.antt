@@ -1,23 +1,50 @@
--- What was printed stays when the output hands it over.
-use Rattle.std.proofs.Common.{◌≡◌, ◌∙◌, ◌-◌, ℕ, List, Option, Some, None, subst}
-use Rattle.std.specs.Io.KnownBytes.{Appends, Keeps}
+-- What is printed of a log.
+use Rattle.std.proofs.Common.{◌≡◌, ◌+◌, ◌-◌, ℕ, List, Option, Result, Ok, Err, OnOk, false, true, length, refl, subst}
+use Rattle.std.specs.Prelude.{◌&&◌, IsOk}
+use Rattle.std.specs.Io.KnownBytes.{Keeps}
+use Rattle.std.specs.declared.ops.Range.{Range}
+use Rattle.std.proofs.KnownBytes.{Appends-kept}
 use Rattle.document_framing.specs.declared.form.DocumentForm.{DocumentForm}
 use Rattle.framed_logs.specs.Reading.{PrintsRecords}
+use Rattle.program_logs.specs.Given.{PrintsRange}
+use Rattle.store_commands.specs.NumberRanges.{is_within, names}
 use Rattle.store_format.specs.Block.{Slot}
 
-kept_after : (old mid new : Option (List ℕ)) (bytes : List ℕ) → Appends old mid bytes → Keeps mid new → Appends old new bytes
-kept_after None mid new bytes more kept = tt
-kept_after (Some x) None new bytes more kept = absurd more
-kept_after (Some x) (Some y) None bytes more kept = absurd kept
-kept_after (Some x) (Some y) (Some z) bytes more kept = kept ∙ more
-
+-- what was printed stays when the output hands it over
 pub records_kept : (form : DocumentForm) (first : ℕ) (all : List Slot) (from count : ℕ) (old mid new : Option (List ℕ)) → PrintsRecords form first all from count old mid
     → Keeps mid new → PrintsRecords form first all from count old new
 records_kept form first all from count old mid new h kept =
-    record { records = h.records; many = h.many; has = h.has; printed = kept_after old mid new _ h.printed kept }
+    record { records = h.records; many = h.many; has = h.has; printed = Appends-kept old mid new _ h.printed kept }
 
 -- the same records, between the same numbers
 pub same_records : (form : DocumentForm) (first : ℕ) (all : List Slot) (from start to end : ℕ) (old new : Option (List ℕ)) → from ≡ start → to ≡ end
     → PrintsRecords form first all from (to - from) old new → PrintsRecords form first all start (end - start) old new
 same_records form first all from start to end old new same_start same_end h =
     subst (λ k. PrintsRecords form first all start (k - start) old new) same_end (subst (λ k. PrintsRecords form first all k (to - k) old new) same_start h)
+
+-- the records of a range, by the bounds that a reader gave
+pub range_shown : (form : DocumentForm) (first : ℕ) (all : List Slot) (range : Option ℕ × Option ℕ) (numbers : Range ℕ) (from to : ℕ) (old new : Option (List ℕ))
+    → from ≡ first → to ≡ first + length all → ((k : ℕ) → is_within numbers k ≡ (names from range k && is_within (record { start = from; end = to }) k))
+    → PrintsRecords form first all numbers.start (numbers.end - numbers.start) old new → PrintsRange form first all range old new
+range_shown form first all range numbers from to old new first_is end_is are printed = record {
+  bytes = _;
+  shown = record {
+    numbers = numbers;
+    are = subst (λ end. (k : ℕ) → is_within numbers k ≡ (names first range k && is_within (record { start = first; end = end }) k)) end_is
+        (subst (λ start. (k : ℕ) → is_within numbers k ≡ (names start range k && is_within (record { start = start; end = to }) k)) first_is are);
+    records = printed.records;
+    many = printed.many;
+    has = printed.has;
+    bytes_are = refl;
+  };
+  printed = printed.printed;
+}
+
+-- a fact that is asked only where the result came
+pub on_ok_given : {T E : Type 0} (r : Result T E) (P : Type 0) → (IsOk r → P) → OnOk r P
+on_ok_given (Ok x) P given = given refl
+on_ok_given (Err e) P given = tt
+
+pub on_ok_is : {T E : Type 0} (r : Result T E) (P : Type 0) → IsOk r → OnOk r P → P
+on_ok_is (Ok x) P is holds = holds
+on_ok_is (Err e) P is holds = let no : false ≡ true = is in absurd cc

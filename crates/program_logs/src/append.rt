@@ -1,5 +1,12 @@
 //! `log append`: puts records after those of a log.
 
+ghost use Rattle.std.specs.Prelude.{◌≡◌, IfOk, IsTrue, OnOk, map, option_and_then};
+ghost use Rattle.document_framing.specs.Feeding.{all_documents};
+ghost use Rattle.document_framing.specs.Inputs.{inputs_of};
+ghost use Rattle.framed_logs.specs.Appending.{AppendsAll};
+ghost use Rattle.program_logs.specs.Appended.{Appended, IsOpened};
+ghost use Rattle.store_files.specs.Disk.{seen};
+
 use crate::FOLDER;
 use crate::log_refusal::refused;
 use crate::logs::{Logs, TailOptions, WrittenLog, close};
@@ -18,6 +25,7 @@ use program_base::input_progress::InputProgress;
 use program_base::progress::Progress;
 use segmented_log::Commit;
 use std::alloc::{AllocError, Global};
+use std::io::Write;
 use store_files::{DiskFolder, SystemFiles};
 
 const EXAMPLE: &str = "\
@@ -101,16 +109,15 @@ fn tail_options_of(alloc: Global, matches: &ArgMatches<'_>) -> Result<TailOption
     Ok(TailOptions { commit, seal_size })
 }
 
-// How records are appended, by the words.
+/// How records are appended.
 #[derive(Clone, Copy)]
-struct AppendOptions {
-    policy: SyncPolicy,
-    framing: Framing,
-    // How many records have to come, if the words say so.
-    expected: Option<u64>,
-    tail: TailOptions,
-    prints_numbers: bool,
-    is_quiet: bool,
+pub struct AppendOptions {
+    pub policy: SyncPolicy,
+    pub framing: Framing,
+    /// How many records have to come, if that is said.
+    pub expected: Option<u64>,
+    pub tail: TailOptions,
+    pub is_quiet: bool,
 }
 
 // How the words say that records are appended.
@@ -121,30 +128,28 @@ fn options_of(alloc: Global, matches: &ArgMatches<'_>) -> Result<AppendOptions, 
         framing: framing_of(alloc, matches)?,
         expected,
         tail: tail_options_of(alloc, matches)?,
-        prints_numbers: matches.get_flag("number"),
         is_quiet: matches.get_flag("quiet"),
     })
 }
 
-// A log on disk to which records are appended.
-type DiskAppending<'a, S> = Appending<DiskFolder<S>, DocumentOutput<'a>, InputProgress<'a>>;
+/// A log on disk to which records were appended, and the output for their numbers.
+pub type DiskAppending<'a, S, W> = Appending<DiskFolder<S>, W, InputProgress<'a>>;
 
 // The log at a path, to which the records of inputs are to be appended.
-fn appending_of<'a, S: SystemFiles>(
+fn appending_of<'a, S: SystemFiles, W: Write + Drop>(
     logs: Logs<'a, S>,
     path: &str,
     options: AppendOptions,
     paths: &[&str],
-) -> Result<DiskAppending<'a, S>, Failure> {
+    output: Option<W>,
+) -> Result<DiskAppending<'a, S, W>, FailureCause>
+    ensures log { IsTrue S.honest → IfOk result (λ appending. IsOpened (seen (S.start path.now)) appending.log.value) }
+    ensures output { IfOk result (λ appending. appending.numbers.bytes ≡ option_and_then W.contents output) }
+{
     let rt = logs.rt;
-    let numbers = match options.prints_numbers {
-        true => Some(with_file(rt.alloc(), path, standard_output(rt))?),
-        false => None,
-    };
-    let log = logs.open_or_begin(path, options.tail);
-    let log = with_file(rt.alloc(), path, log)?;
+    let log = logs.open_or_begin(path, options.tail)?;
     let progress = InputProgress::begin(rt, options.is_quiet, "records", options.framing, paths);
-    Ok(Appending::new(log, options.policy, numbers, progress))
+    Ok(Appending::new(log, options.policy, output, progress))
 }
 
 // Prints a line on what was appended, where progress is shown.
@@ -171,30 +176,34 @@ fn failure_of(alloc: Global, path: &str, paths: &[&str], error: AppendError) -> 
 }
 
 // Reports why not all records were appended, or their numbers not printed, and then which records are in the log.
-fn report(
+fn reported(
     rt: &HostRuntime,
     path: &str,
-    failure: &Failure,
+    failure: Failure,
     appended: RecordSpan,
     is_broken: bool,
-) -> Result<(), Failure> {
+) -> Failure {
     let Some(status) = failure.report(rt) else {
-        return Ok(());
+        return failure;
     };
     let more = if is_broken { UNKNOWN_MORE } else { "" };
     let _ = eprintln!(rt; "zevkhadun: {path}: appended: {appended}{more}");
-    Err(Failure::from(FailureCause::Reported(status)))
+    Failure::from(FailureCause::Reported(status))
 }
 
 // Appends the records of these inputs, and says how many there were.
-fn append_all<S: SystemFiles, I: InputFiles>(
+fn append_all<S: SystemFiles, I: InputFiles, W: Write>(
     rt: &HostRuntime,
     files: &mut I,
     path: &str,
     options: AppendOptions,
     paths: &[&str],
-    appending: &mut DiskAppending<'_, S>,
-) -> Result<(), Failure> {
+    appending: &mut DiskAppending<'_, S, W>,
+) -> Result<(), Failure>
+    ensures { IsTrue S.honest → OnOk result (AppendsAll
+        (all_documents options.framing (inputs_of (I.holds files.old) (map (λ path. path.now) paths.now)))
+        appending.old.log.value appending.new.log.value appending.old.numbers appending.new.numbers) }
+{
     let AppendOptions {
         framing,
         expected,
@@ -213,7 +222,7 @@ fn append_all<S: SystemFiles, I: InputFiles>(
         }
         Err(error) => {
             let failure = failure_of(rt.alloc(), path, paths, error);
-            report(rt, path, &failure, appended, appending.log.is_broken())
+            Err(reported(rt, path, failure, appended, appending.log.is_broken()))
         }
     }
 }
@@ -229,6 +238,46 @@ fn end<S: SystemFiles>(rt: &HostRuntime, path: &str, log: WrittenLog<S>, seals: 
     close(rt, path, log);
 }
 
+/// Appends the records of the inputs of these paths to the log at a path, which is begun where none is. An Ok says that
+/// the log that is returned has exactly these more, on the disk, and that the output has exactly their numbers more. An
+/// error was reported, with how many of them are in the log.
+pub fn append<'a, S: SystemFiles, I: InputFiles, W: Write + Drop>(
+    logs: Logs<'a, S>,
+    files: &mut I,
+    path: &str,
+    options: AppendOptions,
+    paths: &[&str],
+    output: Option<W>,
+) -> Result<DiskAppending<'a, S, W>, Failure>
+    ensures { IsTrue S.honest → IfOk result (λ appending. Appended (seen (S.start path.now))
+        (all_documents options.framing (inputs_of (I.holds files.old) (map (λ path. path.now) paths.now)))
+        appending.log.value (option_and_then W.contents output) appending.numbers.bytes) }
+{
+    let rt = logs.rt;
+    let mut appending = match appending_of(logs, path, options, paths, output) {
+        Ok(appending) => appending,
+        Err(cause) => return Err(Failure::at_file(rt.alloc(), path, cause)),
+    };
+    match append_all(rt, files, path, options, paths, &mut appending) {
+        Ok(()) => Ok(appending),
+        Err(failure) => {
+            end(rt, path, appending.log, false);
+            Err(failure)
+        }
+    }
+}
+
+// The output for the numbers of records, if the words ask for these.
+fn numbers_output<'a>(
+    rt: &'a HostRuntime,
+    matches: &ArgMatches<'_>,
+) -> Result<Option<DocumentOutput<'a>>, FailureCause> {
+    match matches.get_flag("number") {
+        true => Ok(Some(standard_output(rt)?)),
+        false => Ok(None),
+    }
+}
+
 /// Appends the records of the inputs that the words name to the log at a path.
 pub fn run<S: SystemFiles, I: InputFiles>(
     logs: Logs<'_, S>,
@@ -241,9 +290,8 @@ pub fn run<S: SystemFiles, I: InputFiles>(
     let list = InputList::read(rt, matches)?;
     let words = matches.get_strs(INPUT).unwrap_or(&[]);
     let paths = with_file(rt.alloc(), path, list.paths(rt.alloc(), words))?;
-    let mut appending = appending_of(logs, path, options, &paths)?;
-    let appended = append_all(rt, files, path, options, &paths, &mut appending);
-    let Appending { log, .. } = appending;
-    end(rt, path, log, appended.is_ok());
-    appended
+    let output = with_file(rt.alloc(), path, numbers_output(rt, matches))?;
+    let appending = append(logs, files, path, options, &paths, output)?;
+    end(rt, path, appending.log, true);
+    Ok(())
 }

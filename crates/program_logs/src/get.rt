@@ -1,20 +1,29 @@
 //! `log get`: prints records by their numbers.
 
+ghost use Rattle.std.specs.Prelude.{◌≡◌, ℕ, List, IsTrue, OnOk};
+ghost use Rattle.program_base.specs.PrintedRanges.{PrintsNamed};
+ghost use Rattle.program_logs.specs.Given.{IsRangeShown, PrintsRange};
+ghost use Rattle.segmented_log.specs.Log.{IsLog};
+ghost use Rattle.store_files.specs.Disk.{replay, seen};
+ghost use Rattle.store_format.specs.Block.{Slot};
+
 use crate::folder;
-use crate::log_refusal::unprinted;
-use crate::logs::{OpenLog, ReadLogs, check_end};
-use crate::number_range::NumberRange;
+use crate::log_refusal::{unnamed, unprinted};
+use crate::logs::{ReadLogs, check_end};
 use clap::{ArgMatches, Command};
 use document_framing::DocumentForm;
-use framed_logs::print_records;
+use framed_logs::{ReadLog, print_records};
 use program_base::arguments;
 use program_base::command_words::{Argument, command_of};
-use program_base::document_output::{self, DocumentOutput, form_of, standard_output};
-use program_base::failure::{FailureCause, to_output};
-use program_base::listed_numbers::{ListedNumbers, is_listed};
+use program_base::document_output::{self, form_of, standard_output};
+use program_base::failure::FailureCause;
+use program_base::listed_numbers::is_listed;
+use program_base::numbered::{Numbered, print_listed, print_ranges};
 use std::alloc::{AllocError, Global};
 use std::io::Write;
+use store_commands::{NumberRange, ranges_of};
 use store_files::SystemFiles;
+use store_folder::ReadableFolder;
 
 const EXAMPLE: &str = "\
 It takes no lock, so a writer may go on. It shows the log as it was when it was opened.
@@ -44,63 +53,81 @@ pub fn command<'a>(alloc: Global) -> Result<Command<'a>, AllocError> {
     )
 }
 
-// An opened log, and the output for its records.
-#[derive(Drop)]
-struct Printer<'a, S: SystemFiles> {
+// Prints the records of a range. Where the folder is honest, an Ok says that exactly these of its log came.
+fn print_range_of<F: ReadableFolder, W: Write>(
     alloc: Global,
-    read: OpenLog<S>,
-    output: DocumentOutput<'a>,
+    read: &mut ReadLog<F>,
     form: DocumentForm,
-}
-
-impl<'a, S: SystemFiles> Printer<'a, S> {
-    // Prints the records of the range that each word names.
-    fn print_words(&mut self, words: &[&str]) -> Result<(), FailureCause> {
-        for word in words {
-            self.print_word(word)?;
-        }
-        self.flush()
-    }
-
-    // Prints those that the lines of the standard input name. What was asked for is printed before more is waited for.
-    fn print_listed(&mut self, rt: &HostRuntime) -> Result<(), FailureCause> {
-        let mut numbers = ListedNumbers::new(self.alloc, rt.reader())?;
-        for _ in 0..u64::MAX {
-            if !numbers.read()? {
-                break;
-            }
-            if !numbers.word().is_empty() {
-                let printed = self.print_word(numbers.word());
-                numbers.outcome(printed)?;
-            }
-            if numbers.is_waited_for() {
-                self.flush()?;
-            }
-        }
-        self.flush()
-    }
-
-    // Prints the records that a word names.
-    fn print_word(&mut self, word: &str) -> Result<(), FailureCause> {
-        let range = NumberRange::parse(self.alloc, word)?;
-        let numbers = range.among(self.read.first(), self.read.end())?;
-        let (from, to) = (numbers.start, numbers.end);
-        let (read, output) = (&mut self.read, &mut self.output);
-        print_records(self.alloc, read, self.form, from, to, output).map_err(unprinted)
-    }
-
-    // Hands over what was printed.
-    fn flush(&mut self) -> Result<(), FailureCause> {
-        to_output(self.output.flush())
-    }
-}
-
-// Fails if a word is not a range.
-fn check_words(alloc: Global, words: &[&str]) -> Result<(), FailureCause> {
-    for word in words {
-        let _range = NumberRange::parse(alloc, word)?;
-    }
+    range: NumberRange,
+    output: &mut W,
+) -> Result<(), FailureCause>
+    ensures printed { IsTrue F.honest → (first : ℕ) (all : List Slot) → IsLog first all (F.seen read.old.folder)
+        → OnOk result (PrintsRange form first all range (W.contents output.old) (W.contents output.new)) }
+    ensures folder { read.new.folder ≡ read.old.folder }
+{
+    let numbers = range.among(read.first(), read.end()).map_err(unnamed)?;
+    print_records(alloc, read, form, numbers.start, numbers.end, output).map_err(unprinted)?;
     Ok(())
+}
+
+// An opened log, whose records are printed by their numbers.
+#[derive(Drop)]
+struct NumberedLog<F: ReadableFolder> {
+    read: ReadLog<F>,
+}
+
+impl<F: ReadableFolder> Numbered for NumberedLog<F> {
+    ghost use Rattle.std.specs.Prelude.{◌≡◌, ℕ, List, IsTrue, refl};
+    ghost use Rattle.program_base.specs.PrintedRanges.{PrintsEach};
+    ghost use Rattle.program_base.proofs.PrintedLemmas.{prints_none};
+    ghost use Rattle.program_logs.specs.Given.{IsRangeShown, given_more};
+    ghost use Rattle.segmented_log.specs.Log.{IsLog};
+    ghost use Rattle.store_format.specs.Block.{Slot};
+
+    ghost prints = { λ form ranges old new before after. (new.read.folder ≡ old.read.folder)
+        × (IsTrue F.honest → (first : ℕ) (all : List Slot) → IsLog first all (F.seen old.read.folder)
+        → PrintsEach (IsRangeShown form first all) ranges before after) };
+
+    fn print<W: Write>(
+        &mut self,
+        alloc: Global,
+        form: DocumentForm,
+        range: NumberRange,
+        output: &mut W,
+    ) -> Result<(), FailureCause> {
+        print_range_of(alloc, &mut self.read, form, range, output)
+    }
+
+    ghost prints_none = { λ form this old new kept. (
+      refl,
+      λ honest first all is. prints_none (IsRangeShown form first all) old new kept,
+    ) };
+
+    ghost prints_more = { λ form first next old middle new before between after p q.
+        given_more F.honest F.seen form old.read.folder middle.read.folder new.read.folder first next
+        before between after p q };
+}
+
+/// Prints the records that words name of the log at a path. An Ok says that the output has exactly these more: those of
+/// the range that each word names, in the order of the words.
+pub fn print_named<S: SystemFiles, W: Write>(
+    logs: &ReadLogs<'_, S>,
+    path: &str,
+    form: DocumentForm,
+    words: &[&str],
+    output: &mut W,
+) -> Result<(), FailureCause>
+    ensures printed { IsTrue S.honest → (first : ℕ) (all : List Slot)
+        → IsLog first all (seen (replay (S.changes logs.now.value path.now) (S.start path.now)))
+        → OnOk result (PrintsNamed (IsRangeShown form first all) words.now
+        (W.contents output.old) (W.contents output.new)) }
+{
+    let alloc = logs.rt.alloc();
+    let ranges = ranges_of(alloc, words)?;
+    let read = logs.open_to_read(path)?;
+    let mut log = NumberedLog { read };
+    print_ranges(alloc, &mut log, form, &ranges, output)?;
+    check_end(&log.read)
 }
 
 /// Prints the records that words name, or those whose numbers are in the standard input.
@@ -112,18 +139,12 @@ pub fn run<S: SystemFiles>(
     let (rt, alloc) = (logs.rt, logs.rt.alloc());
     let form = form_of(alloc, matches)?;
     let words = matches.get_strs("NUMBER").unwrap_or(&[]);
+    let mut output = standard_output(rt)?;
     if !is_listed(words) {
-        check_words(alloc, words)?;
+        return print_named(logs, path, form, words, &mut output);
     }
-    let mut printer = Printer {
-        alloc,
-        read: logs.open_to_read(path)?,
-        output: standard_output(rt)?,
-        form,
-    };
-    match is_listed(words) {
-        true => printer.print_listed(rt)?,
-        false => printer.print_words(words)?,
-    }
-    check_end(&printer.read)
+    let read = logs.open_to_read(path)?;
+    let mut log = NumberedLog { read };
+    print_listed(alloc, &mut log, form, rt.reader(), &mut output)?;
+    check_end(&log.read)
 }

@@ -1,14 +1,13 @@
 //! The commands of `log`: a log of records in a folder grows by `append`, and its records are read by their numbers.
 #![tactic(auto)]
 
-mod append;
-mod cat;
+pub mod append;
+pub mod cat;
 mod compact;
 mod drop;
-mod get;
+pub mod get;
 mod log_refusal;
-mod logs;
-mod number_range;
+pub mod logs;
 mod places;
 mod record_span;
 mod repair;

@@ -4,6 +4,7 @@ use framed_logs::{PrintError, ReadError};
 use program_base::failure::{FailureCause, LogRefusal};
 use program_base::status::Status;
 use segmented_log::LogError;
+use store_commands::RequestError;
 
 // What to do where files or a record of a log are broken.
 const VERIFY: &str = "; 'zevkhadun log verify' says where";
@@ -51,6 +52,16 @@ pub fn unread(error: ReadError) -> FailureCause {
         ReadError::Damaged(number) => FailureCause::DamagedRecord(number),
         ReadError::Busy => FailureCause::BusyLog,
         ReadError::Log(error) => refused(error),
+    }
+}
+
+/// Why a log has not all records of a range, or a word names none.
+pub fn unnamed(error: RequestError) -> FailureCause {
+    match error {
+        RequestError::NoDocument { number, first, end } => {
+            FailureCause::NoRecord { number, first, end }
+        }
+        error => error.into(),
     }
 }
 

@@ -1,6 +1,8 @@
 //! The logs in a system, and how they are opened.
 
-ghost use Rattle.std.specs.Prelude.{◌≡◌, ℕ, List, [], IfOk, IsTrue};
+ghost use Rattle.std.specs.Prelude.{◌≡◌, ℕ, List, [], Ok, IfOk, IsTrue};
+ghost use Rattle.program_logs.specs.Appended.{IsOpened};
+ghost use Rattle.store_files.specs.Disk.{replay, seen};
 
 use crate::log_refusal::{refused, unread};
 use crate::places::{check_log, check_place, segment_numbers, tail_bytes};
@@ -63,7 +65,10 @@ fn open_locked<S: SystemFiles>(
     path: &str,
     folder: Box<DiskFolder<S>>,
     tail: TailOptions,
-) -> Result<WrittenLog<S>, FailureCause> {
+) -> Result<WrittenLog<S>, FailureCause>
+    ensures { IsTrue S.honest → IfOk result (λ log. IsOpened
+        (seen (replay (S.changes folder.value.system folder.value.path) (S.start folder.value.path))) log.value) }
+{
     let before = tail_bytes(rt, path)?.unwrap_or(0);
     let folder = Box::into_inner(folder);
     let log = match SegmentedLog::open(rt.alloc(), folder, tail.seal_size, tail.commit) {
@@ -84,7 +89,9 @@ fn open_locked<S: SystemFiles>(
 fn locked<S: SystemFiles>(
     alloc: Global,
     folder: Result<DiskFolder<S>, CreateError>,
-) -> Result<Box<DiskFolder<S>>, FailureCause> {
+) -> Result<Box<DiskFolder<S>>, FailureCause>
+    ensures { IfOk result (λ opened. folder ≡ Ok opened.value) }
+{
     match folder {
         Ok(folder) => Ok(Box::new(alloc, folder)?),
         Err(CreateError::Busy(_)) => Err(FailureCause::BusyLog),
@@ -113,12 +120,10 @@ impl<'a, S: SystemFiles> Logs<'a, S> {
         open_locked(rt, path, self.folder(path)?, NOT_APPENDED)
     }
 
-    /// Opens a log to write it, or begins one.
-    pub fn open_or_begin(
-        self,
-        path: &str,
-        tail: TailOptions,
-    ) -> Result<WrittenLog<S>, FailureCause> {
+    /// Opens a log to write it, or begins one. It has the records of the log that was there, and none where none was.
+    pub fn open_or_begin(self, path: &str, tail: TailOptions) -> Result<WrittenLog<S>, FailureCause>
+        ensures { IsTrue S.honest → IfOk result (λ log. IsOpened (seen (S.start path.now)) log.value) }
+    {
         let Logs { rt, system } = self;
         check_place(rt, path)?;
         let folder = locked(rt.alloc(), DiskFolder::create(rt.alloc(), system, path))?;

@@ -18,12 +18,12 @@ pub on_ok_is : {T E : Type 0} (r : Result T E) (P : Type 0) → IsOk r → OnOk 
 on_ok_is (Ok x) P is holds = holds
 on_ok_is (Err e) P is holds = let no : false ≡ true = is in absurd cc
 
--- a fact that holds anyway
-pub on_ok_always : {T E : Type 0} (r : Result T E) (P : Type 0) → P → OnOk r P
-on_ok_always (Ok x) P holds = holds
-on_ok_always (Err e) P holds = tt
-
 -- what follows from a fact of a result that came
 pub on_ok_map : {T E : Type 0} (r : Result T E) (P Q : Type 0) → (P → Q) → OnOk r P → OnOk r Q
 on_ok_map (Ok x) P Q follows holds = follows holds
 on_ok_map (Err e) P Q follows holds = tt
+
+-- two facts
+pub on_ok_both : {T E : Type 0} (r : Result T E) (P Q : Type 0) → P → OnOk r Q → OnOk r (P × Q)
+on_ok_both (Ok x) P Q first next = (first, next)
+on_ok_both (Err e) P Q first next = tt

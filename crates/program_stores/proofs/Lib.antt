@@ -1,4 +1,3 @@
 pub mod GivenLemmas
 pub mod MergedLemmas
-pub mod RangesLemmas
 pub mod RoundTripLemmas

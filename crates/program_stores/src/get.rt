@@ -1,27 +1,27 @@
 //! `get`: prints documents by their numbers.
 
 ghost use Rattle.std.specs.Prelude.{◌≡◌, ℕ, List, map, IfOk, IsTrue, OnOk, Some};
+ghost use Rattle.program_base.specs.PrintedRanges.{PrintsNamed};
 ghost use Rattle.program_base.specs.StoresOnDisk.{IsReaderOf};
-ghost use Rattle.program_stores.specs.Given.{PrintsRange, PrintsRanges, PrintsWords};
-ghost use Rattle.store_commands.specs.IdRanges.{range_named};
+ghost use Rattle.program_stores.specs.Given.{IsRangeShown, PrintsRange};
 ghost use Rattle.store_files.specs.Disk.{replay, seen};
 ghost use Rattle.store_files.specs.Paths.{IsPath};
 ghost use Rattle.store_reader.specs.Reading.{IsSameStore, Reading};
 
 use clap::{ArgMatches, Command};
+use docstore::DocId;
 use document_framing::DocumentForm;
 use framed_stores::print_range;
 use program_base::arguments;
 use program_base::command_words::{Argument, command_of};
 use program_base::document_output::{self, form_of, standard_output};
-use program_base::failure::{Failure, FailureCause, to_output, with_file};
-use program_base::listed_numbers::{ListedNumbers, is_listed};
-use program_base::number_words::check_id_word;
-use program_base::store_file::{OpenReader, StorePath, store_path, with_reason};
+use program_base::failure::{Failure, FailureCause, with_file};
+use program_base::listed_numbers::is_listed;
+use program_base::numbered::{Numbered, print_listed, print_ranges};
+use program_base::store_file::{DiskReader, OpenReader, StorePath, store_path, with_reason};
 use std::alloc::{AllocError, Global};
-use std::io::{Read, Write};
-use store_commands::id_range::range_of;
-use store_commands::{IdRange, ranges_of};
+use std::io::Write;
+use store_commands::{NumberRange, ranges_of};
 use store_files::{ReadAt, SystemFiles};
 
 const EXAMPLE: &str = "\
@@ -52,87 +52,57 @@ pub fn command<'a>(alloc: Global) -> Result<Command<'a>, AllocError> {
 }
 
 // Prints the documents of a range. Where the file is honest, an Ok says that exactly these came.
-fn print_one<F: ReadAt, W: Write>(
+fn print_range_of<F: ReadAt, W: Write>(
     alloc: Global,
     reader: &mut OpenReader<F>,
     form: DocumentForm,
+    range: NumberRange,
     output: &mut W,
-    range: IdRange,
 ) -> Result<(), FailureCause>
     ensures printed { IsTrue reader.old.file.honest → OnOk result
         (PrintsRange form reader.old range (W.contents output.old) (W.contents output.new)) }
     ensures same_store { IsSameStore reader.old reader.new }
 {
-    let ids = range.among(reader.num_docs())?;
-    if ids.start > ids.end {
+    let numbers = range.among(0, u64::from(reader.num_docs()))?;
+    if numbers.start == numbers.end {
         return Ok(());
     }
+    let ids = numbers.start as DocId..numbers.end as DocId;
     let printed = print_range(alloc, reader, form, output, ids);
     with_reason(reader, printed.map_err(FailureCause::from))
 }
 
-// Prints the documents of each range, one range after the other. Where the file is honest, an Ok says that exactly
-// these came.
-fn print_all<F: ReadAt, W: Write>(
-    alloc: Global,
-    reader: &mut OpenReader<F>,
-    form: DocumentForm,
-    output: &mut W,
-    ranges: &[IdRange],
-) -> Result<(), FailureCause>
-    ensures { IsTrue reader.old.file.honest → OnOk result
-        (PrintsRanges form reader.old ranges.now (W.contents output.old) (W.contents output.new)) }
-{
-    for range in ranges {
-        print_one(alloc, reader, form, output, *range)?;
-    }
-    to_output(output.flush())
+// An opened store, whose documents are printed by their numbers.
+#[derive(Drop)]
+struct NumberedStore<F: ReadAt> {
+    reader: DiskReader<F>,
 }
 
-// Prints the documents that a word names.
-fn print_word<F: ReadAt, W: Write>(
-    alloc: Global,
-    reader: &mut OpenReader<F>,
-    form: DocumentForm,
-    output: &mut W,
-    word: &str,
-) -> Result<(), FailureCause> {
-    check_id_word(alloc, word)?;
-    print_one(alloc, reader, form, output, range_of(alloc, word)?)
-}
+impl<F: ReadAt> Numbered for NumberedStore<F> {
+    ghost use Rattle.program_stores.specs.Given.{IsRangeShown, PrintsOf, given_more};
+    ghost use Rattle.program_base.proofs.PrintedLemmas.{prints_none};
+    ghost use Rattle.store_reader.proofs.RecentLemmas.{same_as_it_is};
 
-// Prints those that the lines of an input name. What was asked for is printed before more is waited for.
-fn print_listed<F: ReadAt, W: Write, R: Read + Drop>(
-    alloc: Global,
-    reader: &mut OpenReader<F>,
-    form: DocumentForm,
-    output: &mut W,
-    input: R,
-) -> Result<(), FailureCause> {
-    let mut numbers = ListedNumbers::new(alloc, input)?;
-    for _ in 0..u64::MAX {
-        if !numbers.read()? {
-            break;
-        }
-        if !numbers.word().is_empty() {
-            let printed = print_word(alloc, reader, form, output, numbers.word());
-            numbers.outcome(printed)?;
-        }
-        if numbers.is_waited_for() {
-            to_output(output.flush())?;
-        }
-    }
-    to_output(output.flush())
-}
+    ghost prints = { λ form ranges old new before after.
+        PrintsOf form ranges old.reader.value new.reader.value before after };
 
-// The ranges that words name.
-fn named_ranges(alloc: Global, words: &[&str]) -> Result<Vec<IdRange>, FailureCause>
-    ensures { IfOk result (λ ranges. map (λ word. range_named word.now) words.now ≡ map Some ranges.items) }
-{
-    for word in words {
-        check_id_word(alloc, word)?;
+    fn print<W: Write>(
+        &mut self,
+        alloc: Global,
+        form: DocumentForm,
+        range: NumberRange,
+        output: &mut W,
+    ) -> Result<(), FailureCause> {
+        print_range_of(alloc, &mut *self.reader, form, range, output)
     }
-    Ok(ranges_of(alloc, words)?)
+
+    ghost prints_none = { λ form this old new kept. (
+      same_as_it_is this.reader.value,
+      λ honest. prints_none (IsRangeShown form this.reader.value) old new kept,
+    ) };
+
+    ghost prints_more = { λ form first next old middle new before between after p q.
+        given_more form old.reader.value middle.reader.value new.reader.value first next before between after p q };
 }
 
 /// Prints the documents that words name of the store at a path. An Ok says that the output has exactly these more:
@@ -147,11 +117,11 @@ pub fn print_named<S: SystemFiles, W: Write>(
 ) -> Result<(), FailureCause>
     ensures { IsTrue S.honest → (d n : List ℕ) → IsPath d n store.entry.path.now → OnOk result ((reader : Reading)
         × IsReaderOf store.entry.is_tantivy (seen (replay (S.changes system.now d) (S.start d)) n) reader
-        × PrintsWords form reader words.now (W.contents output.old) (W.contents output.new)) }
+        × PrintsNamed (IsRangeShown form reader) words.now (W.contents output.old) (W.contents output.new)) }
 {
-    let ranges = named_ranges(alloc, words)?;
-    let mut reader = store.reader(alloc, system)?;
-    print_all(alloc, &mut *reader, form, output, &ranges)
+    let ranges = ranges_of(alloc, words)?;
+    let reader = store.reader(alloc, system)?;
+    print_ranges(alloc, &mut NumberedStore { reader }, form, &ranges, output)
 }
 
 // Prints the documents that words name, or those whose numbers are in the standard input.
@@ -167,8 +137,10 @@ fn print<S: SystemFiles>(
     if !is_listed(words) {
         return print_named(alloc, system, store, form, words, &mut output);
     }
-    let mut reader = store.reader(alloc, system)?;
-    print_listed(alloc, &mut *reader, form, &mut output, rt.reader())
+    let mut documents = NumberedStore {
+        reader: store.reader(alloc, system)?,
+    };
+    print_listed(alloc, &mut documents, form, rt.reader(), &mut output)
 }
 
 /// Prints the documents.

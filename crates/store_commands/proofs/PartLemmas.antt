@@ -30,7 +30,7 @@ part_refuses count word items k d e same lt h = by e h
 
     by : (e : RequestError) → RefusesOnePart count (get_or items k d).now e → RefusesParts count word e
     by (NoRange text) h = (k, (get_or items k d).now, within, here, h)
-    by (NoDocument id documents) h = (k, (get_or items k d).now, within, here, h)
+    by (NoDocument id first end) h = (k, (get_or items k d).now, within, here, h)
     by (TooManyDocuments documents bytes) h = absurd h
     by (Store x) h = h
 
@@ -44,6 +44,6 @@ word_refuses count words k d e lt h = by e h
 
     by : (e : RequestError) → RefusesParts count (get_or words k d).now e → RefusesWords words count e
     by (NoRange text) h = (k, get_or words k d, lt, here, h)
-    by (NoDocument id documents) h = (k, get_or words k d, lt, here, h)
+    by (NoDocument id first end) h = (k, get_or words k d, lt, here, h)
     by (TooManyDocuments documents bytes) h = (k, get_or words k d, lt, here, h)
     by (Store x) h = h

@@ -11,7 +11,7 @@ use Rattle.std.proofs.lemmas.Bool.{lt-ltb, le-ltb, ltb-true}
 use Rattle.std.proofs.lemmas.Bool.Decides.{nat_tests}
 use Rattle.std.proofs.lemmas.Str.Parse.{IsNumeralModel, numerals_by_value, tells_all_ascii_digits}
 use Rattle.store_base.proofs.ListLemmas.{both}
-use Rattle.store_commands.specs.IdRanges.{number_named, around_dots, dots, start_named, end_named, range_named}
+use Rattle.store_commands.specs.NumberRanges.{number_named, around_dots, dots, bound_named, range_named}
 
 own : IsNumeralModel (λ ds. all_ascii_digits ds ≡ true) (digits_value 10)
 own = numerals_by_value (λ ds. all_ascii_digits ds ≡ true) tells_all_ascii_digits
@@ -21,20 +21,20 @@ none_unless true n h = absurd (h refl)
 none_unless false n h = refl
 
 -- `parse` reads the number that a text spells
-pub number_parsed : {E : Type 0} (text : List ℕ) (r : Result ℕ E) → ParsesUnsigned 32 10 text r → result_ok r ≡ number_named text
+pub number_parsed : {E : Type 0} (text : List ℕ) (r : Result ℕ E) → ParsesUnsigned 64 10 text r → result_ok r ≡ number_named text
 unfolding number_named
 number_parsed text (Ok n) h =
     let digits = without_leading_plus text in
     let some : nat_lt 0 (length digits) ≡ true = lt-ltb 0 (length digits) h.0.0.0 in
     let all : all_ascii_digits digits ≡ true = own.from digits h.0.0.1 in
-    let few : nat_lt (digits_value 10 digits) 4294967296 ≡ true = lt-ltb (digits_value 10 digits) 4294967296 h.0.1 in
+    let few : nat_lt (digits_value 10 digits) 18446744073709551616 ≡ true = lt-ltb (digits_value 10 digits) 18446744073709551616 h.0.1 in
     rw (some, all, few) (ap Some h.1)
 number_parsed text (Err e) h =
     let digits = without_leading_plus text in
-    none_unless (nat_lt 0 (length digits) && all_ascii_digits digits && nat_lt (digits_value 10 digits) 4294967296) (digits_value 10 digits) (λ t.
-    let last = both (nat_lt 0 (length digits) && all_ascii_digits digits) (nat_lt (digits_value 10 digits) 4294967296) t in
+    none_unless (nat_lt 0 (length digits) && all_ascii_digits digits && nat_lt (digits_value 10 digits) 18446744073709551616) (digits_value 10 digits) (λ t.
+    let last = both (nat_lt 0 (length digits) && all_ascii_digits digits) (nat_lt (digits_value 10 digits) 18446744073709551616) t in
     let first = both (nat_lt 0 (length digits)) (all_ascii_digits digits) last.0 in
-    h ((ltb-true 0 (length digits) first.0, own.to digits first.1), ltb-true (digits_value 10 digits) 4294967296 last.1))
+    h ((ltb-true 0 (length digits) first.0, own.to digits first.1), ltb-true (digits_value 10 digits) 18446744073709551616 last.1))
 
 -- ---- two dots
 
@@ -93,22 +93,22 @@ pub alone_none : (word : List ℕ) → None ≡ around_dots word → None ≡ nu
 unfolding range_named
 alone_none word split number = rw (← split, ← number) refl
 
-pub alone_last : (word : List ℕ) (n : ℕ) → None ≡ around_dots word → Some n ≡ number_named word → ((n + 1 < 4294967296) → ⊥) → None ≡ range_named word
+pub alone_last : (word : List ℕ) (n : ℕ) → None ≡ around_dots word → Some n ≡ number_named word → ((n + 1 < 18446744073709551616) → ⊥) → None ≡ range_named word
 unfolding range_named
-alone_last word n split number last = let past : nat_lt (n + 1) 4294967296 ≡ false = le-ltb (n + 1) 4294967296 (omega arith) in rw (← split, ← number, past) refl
+alone_last word n split number last = let past : nat_lt (n + 1) 18446744073709551616 ≡ false = le-ltb (n + 1) 18446744073709551616 (omega arith) in rw (← split, ← number, past) refl
 
-pub alone_some : (word : List ℕ) (n m : ℕ) → None ≡ around_dots word → Some n ≡ number_named word → n + 1 < 4294967296 → m ≡ n + 1 → Some (n, Some m) ≡ range_named word
+pub alone_some : (word : List ℕ) (n m : ℕ) → None ≡ around_dots word → Some n ≡ number_named word → n + 1 < 18446744073709551616 → m ≡ n + 1 → Some (Some n, Some m) ≡ range_named word
 unfolding range_named
-alone_some word n m split number few same = let below : nat_lt (n + 1) 4294967296 ≡ true = lt-ltb (n + 1) 4294967296 few in rw (← split, ← number, below, same) refl
+alone_some word n m split number few same = let below : nat_lt (n + 1) 18446744073709551616 ≡ true = lt-ltb (n + 1) 18446744073709551616 few in rw (← split, ← number, below, same) refl
 
-pub no_start : (word before after : List ℕ) → Some (before, after) ≡ around_dots word → None ≡ start_named before → None ≡ range_named word
+pub no_start : (word before after : List ℕ) → Some (before, after) ≡ around_dots word → None ≡ bound_named before → None ≡ range_named word
 unfolding range_named
 no_start word before after split start = rw (← split, ← start) refl
 
-pub no_end : (word before after : List ℕ) (s : ℕ) → Some (before, after) ≡ around_dots word → Some s ≡ start_named before → None ≡ end_named after → None ≡ range_named word
+pub no_end : (word before after : List ℕ) (s : Option ℕ) → Some (before, after) ≡ around_dots word → Some s ≡ bound_named before → None ≡ bound_named after → None ≡ range_named word
 unfolding range_named
 no_end word before after s split start end = rw (← split, ← start, ← end) refl
 
-pub both_named : (word before after : List ℕ) (s : ℕ) (e : Option ℕ) → Some (before, after) ≡ around_dots word → Some s ≡ start_named before → Some e ≡ end_named after → Some (s, e) ≡ range_named word
+pub both_named : (word before after : List ℕ) (s e : Option ℕ) → Some (before, after) ≡ around_dots word → Some s ≡ bound_named before → Some e ≡ bound_named after → Some (s, e) ≡ range_named word
 unfolding range_named
 both_named word before after s e split start end = rw (← split, ← start, ← end) refl

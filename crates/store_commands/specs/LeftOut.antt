@@ -1,6 +1,6 @@
 -- The documents that `--without` leaves out.
 use Rattle.std.specs.Prelude.{◌≡◌, ℕ, ◌+◌, ◌<◌, ◌≤◌, Bool, false, ◌&&◌, ◌==◌, nat_le, nat_lt, List, [], ◌∷◌}
-use Rattle.std.specs.Prelude.{Any, Option, Some, None}
+use Rattle.std.specs.Prelude.{Any, Option, Some}
 use Rattle.std.specs.List.{list_any, slice_split}
 use Rattle.std.specs.Option.{option_map_or}
 use Rattle.std.specs.Borrow.{Bor}
@@ -8,7 +8,7 @@ use Rattle.store_base.specs.declared.error.StoreError.TheVariants.{Memory}
 use Rattle.store_commands.specs.declared.left_out.IdSpan.{IdSpan}
 use Rattle.store_commands.specs.declared.request_error.RequestError.{RequestError}
 use Rattle.store_commands.specs.declared.request_error.RequestError.TheVariants.{NoRange, NoDocument, Store}
-use Rattle.store_commands.specs.IdRanges.{names, range_named, RefusesRange}
+use Rattle.store_commands.specs.NumberRanges.{names, range_named, RefusesRange, RefusesWord}
 
 -- ---- ranges of ids
 
@@ -37,7 +37,7 @@ parts_of word = slice_split (λ c. c == 44) word
 
 -- whether a part names an id
 abbrev pub part_names : List ℕ → ℕ → Bool
-part_names part id = option_map_or (λ range. names range id) (range_named part) false
+part_names part id = option_map_or (λ range. names 0 range id) (range_named part) false
 
 -- whether a word names an id
 abbrev pub word_names : List ℕ → ℕ → Bool
@@ -49,9 +49,9 @@ words_name words id = list_any (λ word. word_names word.now id) words
 
 -- Why a part is refused in a store of this many documents.
 abbrev pub RefusesPart : ℕ → RequestError → List ℕ → Type 0
-RefusesPart count (NoRange text) part = range_named part ≡ None
-RefusesPart count (NoDocument id documents) part = (range : ℕ × Option ℕ) × (range_named part ≡ Some range)
-    × RefusesRange range count (NoDocument id documents)
+RefusesPart count (NoRange text) part = RefusesWord part (NoRange text)
+RefusesPart count (NoDocument id first end) part = (range : Option ℕ × Option ℕ) × (range_named part ≡ Some range)
+    × RefusesRange range 0 count (NoDocument id first end)
 RefusesPart count _ part = ⊥
 
 -- Why one part is refused: by what it says, or for lack of memory.

@@ -5,7 +5,7 @@ pub mod Checks
 pub mod Damaged
 pub mod Documents
 pub mod Giving
-pub mod IdRanges
+pub mod NumberRanges
 pub mod Laws
 pub mod LeftOut
 pub mod Merging

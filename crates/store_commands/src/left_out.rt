@@ -8,7 +8,7 @@ ghost use Rattle.store_base.specs.AliveBitSet.{is_alive_at};
 ghost use Rattle.store_commands.specs.LeftOut.{is_in, is_among, AreApartFrom, parts_of, word_names, words_name};
 ghost use Rattle.store_commands.specs.LeftOut.{HasId, part_names, RefusesOnePart, RefusesParts, RefusesWords};
 
-use crate::id_range::range_of;
+use crate::number_range::range_of;
 use crate::request_error::RequestError;
 use docstore::{AliveBitSet, DocId, NoMemory};
 use std::alloc::{AllocError, Global};
@@ -47,9 +47,12 @@ fn add_part(
     ensures filled { AllByRecursion HasId spans.new.items }
     ensures refused { IfErr result (RefusesOnePart num_docs part.now) }
 {
-    let Range { start, end } = range_of(alloc, part)?.among(num_docs)?;
+    let Range { start, end } = range_of(alloc, part)?.among(0, u64::from(num_docs))?;
     if start < end {
-        spans.push(IdSpan { start, end })?;
+        spans.push(IdSpan {
+            start: start as DocId,
+            end: end as DocId,
+        })?;
     }
     Ok(())
 }

@@ -10,9 +10,9 @@ pub enum RequestError {
     /// Words name no documents; it carries why.
     #[error("{0}")]
     NoRange(String),
-    /// The store has `num_docs` documents, and none of the number `doc_id`.
-    #[error("no document {doc_id}; the store has {num_docs}, numbered from 0")]
-    NoDocument { doc_id: DocId, num_docs: DocId },
+    /// No document has this number: they have those from `first` to before `end`, in a store from 0 on.
+    #[error("no document {number}; the store has {end}, numbered from 0")]
+    NoDocument { number: u64, first: u64, end: u64 },
     /// The store claims at least eight documents for each of its bytes, so some of them are damaged, and a set of those
     /// that are kept would take more memory than the file.
     #[error("it claims {num_docs} documents in {bytes} bytes of blocks and index, so some of them are damaged")]

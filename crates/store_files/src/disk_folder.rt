@@ -100,6 +100,8 @@ impl<S: SystemFiles> DiskFolder<S> {
         ensures writable { IfOk result (λ f. f.is_read_only ≡ false) }
         ensures marked { IfOk result (λ f. IsTrue f.keeps_mark) }
         ensures failures { IfOk result (λ f. f.failures ≡ 0) }
+        ensures seen { IsTrue S.honest → IfOk result (λ f. seen (replay (S.changes f.system f.path) (S.start f.path))
+            ≡ seen (S.start path.now)) }
     {
         match system.make_folder(path) {
             Ok(()) => {}
@@ -118,6 +120,8 @@ impl<S: SystemFiles> DiskFolder<S> {
         ensures writable { self.new.is_read_only ≡ self.old.is_read_only }
         ensures marked { self.new.keeps_mark ≡ self.old.keeps_mark }
         ensures failures { self.new.failures ≡ self.old.failures }
+        ensures seen { IsTrue S.honest → seen (replay (S.changes self.new.system self.old.path) (S.start self.old.path))
+            ≡ seen (replay (S.changes self.old.system self.old.path) (S.start self.old.path)) }
     {
         let above = open_folder(&self.system, folder_of(self.path.trim_end_matches('/')))?;
         self.mark.check_lock()?;

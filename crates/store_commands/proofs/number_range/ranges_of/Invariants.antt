@@ -1,6 +1,6 @@
 use Rattle.std.proofs.Common.{◌≡◌, Some, map, take}
-use Rattle.store_commands.specs.IdRanges.{range_named}
-use Rattle.store_commands.proofs.id_range.ranges_of.Given as goal
+use Rattle.store_commands.specs.NumberRanges.{range_named}
+use Rattle.store_commands.proofs.number_range.ranges_of.Given as goal
 
 -- the ranges of the words so far
 abbrev pub invariant-loop-word : goal.invariant-loop-word
