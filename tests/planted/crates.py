@@ -18,7 +18,7 @@ PARTS = ("src", "specs", "proofs")
 LINE = re.compile(r"^(\w+)((?: \w+)*):(.*)$", re.M)
 # The seconds after which a library that another process makes is whole.
 SETTLED = 10
-# The path below its crate of a function that can have a proof of another.
+# The path, below its crate, of a function whose proof a hole can replace.
 PLAIN = re.compile(r"\w+(?:::(?!fn::)\w+)*")
 
 
