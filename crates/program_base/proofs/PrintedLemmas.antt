@@ -1,5 +1,5 @@
 -- Ranges that are printed one after the other.
-use Rattle.std.proofs.Common.{◌≡◌, ◌∙◌, ℕ, List, [], ◌∷◌, ◌++◌, Option, None, Some, Result, Ok, Err, OnOk, subst, sym, append-nil}
+use Rattle.std.proofs.Common.{◌≡◌, ◌∙◌, ℕ, List, [], ◌∷◌, ◌++◌, Option, None, Some, subst, sym, append-nil}
 use Rattle.std.specs.Io.KnownBytes.{Appends, Keeps}
 use Rattle.std.specs.List.{concat}
 use Rattle.std.proofs.KnownBytes.{Appends-nil, Appends-trans}
@@ -49,8 +49,3 @@ pub prints_mapped : (Are Have : Option ℕ × Option ℕ → List ℕ → Type 0
     → (ranges : List (Option ℕ × Option ℕ)) (old new : Option (List ℕ)) → PrintsEach Are ranges old new → PrintsEach Have ranges old new
 prints_mapped Are Have follows ranges old new p =
     record { parts = p.parts; are = are_mapped Are Have follows ranges p.parts p.are; printed = p.printed }
-
--- a fact that holds anyway
-pub on_ok_always : {T E : Type 0} (r : Result T E) (P : Type 0) → P → OnOk r P
-on_ok_always (Ok x) P holds = holds
-on_ok_always (Err e) P holds = tt

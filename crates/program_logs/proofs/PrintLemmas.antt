@@ -1,6 +1,6 @@
 -- What is printed of a log.
-use Rattle.std.proofs.Common.{◌≡◌, ◌+◌, ◌-◌, ℕ, List, Option, Result, Ok, Err, OnOk, false, true, length, refl, subst}
-use Rattle.std.specs.Prelude.{◌&&◌, IsOk}
+use Rattle.std.proofs.Common.{◌≡◌, ◌+◌, ◌-◌, ℕ, List, Option, Result, Ok, Err, OnOk, length, refl, subst}
+use Rattle.std.specs.Prelude.{◌&&◌}
 use Rattle.std.specs.Io.KnownBytes.{Keeps}
 use Rattle.std.specs.declared.ops.Range.{Range}
 use Rattle.std.proofs.KnownBytes.{Appends-kept}
@@ -40,11 +40,8 @@ range_shown form first all range numbers from to old new first_is end_is are pri
   printed = printed.printed;
 }
 
--- a fact that is asked only where the result came
-pub on_ok_given : {T E : Type 0} (r : Result T E) (P : Type 0) → (IsOk r → P) → OnOk r P
-on_ok_given (Ok x) P given = given refl
-on_ok_given (Err e) P given = tt
-
-pub on_ok_is : {T E : Type 0} (r : Result T E) (P : Type 0) → IsOk r → OnOk r P → P
-on_ok_is (Ok x) P is holds = holds
-on_ok_is (Err e) P is holds = let no : false ≡ true = is in absurd cc
+-- what follows of each log from what a call that came did
+pub on_ok_of_logs : {T E : Type 0} (r : Result T E) (H : Type 0) (Is P Q : ℕ → List Slot → Type 0) → ((first : ℕ) (all : List Slot) → P first all → Q first all)
+    → (H → (first : ℕ) (all : List Slot) → Is first all → OnOk r (P first all)) → OnOk r (H → (first : ℕ) (all : List Slot) → Is first all → Q first all)
+on_ok_of_logs (Ok x) H Is P Q follows given = λ h first all is. follows first all (given h first all is)
+on_ok_of_logs (Err e) H Is P Q follows given = tt

@@ -1,13 +1,13 @@
 //! The commands of `log`: a log of records in a folder grows by `append`, and its records are read by their numbers.
 #![tactic(auto)]
 
-pub mod append;
-pub mod cat;
+mod append;
+mod cat;
 mod compact;
 mod drop;
-pub mod get;
+mod get;
 mod log_refusal;
-pub mod logs;
+mod logs;
 mod places;
 mod record_span;
 mod repair;

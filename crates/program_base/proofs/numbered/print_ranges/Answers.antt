@@ -1,7 +1,7 @@
 use Rattle.std.proofs.Common.{◌≡◌, ◌∙◌, ◌++◌, ◌∷◌, [], sym, subst, ap, take, append-nil}
 use Rattle.std.proofs.KnownBytes.{Keeps-refl}
 use Rattle.std.proofs.lemmas.List.{take_more, take_all}
-use Rattle.program_base.proofs.PrintedLemmas.{on_ok_always}
+use Rattle.store_folder.proofs.PublishLemmas.{on_ok_from}
 use Rattle.program_base.proofs.numbered.print_ranges.Goals as goal
 
 pub loop-range-init : goal.loop-range-init
@@ -24,7 +24,7 @@ returns g c =
     let ranges = c.args.ranges.now in
     let so_far = take c.loop-range.range-index ranges in
     let all : so_far ++ [] ≡ ranges = append-nil so_far ∙ take_all c.loop-range.range-index ranges c.loop-range-test.false in
-    on_ok_always c.to_output.result _
-    (subst (λ rs. g.N.Numbered.prints c.args.form rs c.args.numbered.now c.loop-range.numbered (out c.args.output.now) (out c.flush.new.self)) all
+    on_ok_from c.to_output.result (λ _.
+    subst (λ rs. g.N.Numbered.prints c.args.form rs c.args.numbered.now c.loop-range.numbered (out c.args.output.now) (out c.flush.new.self)) all
     (g.met.N.Numbered.prints_more c.args.form so_far [] c.args.numbered.now c.loop-range.numbered c.loop-range.numbered (out c.args.output.now) (out c.loop-range.output) (out c.flush.new.self)
     c.loop-range.invariant (g.met.N.Numbered.prints_none c.args.form c.loop-range.numbered (out c.loop-range.output) (out c.flush.new.self) c.flush.ensures.bytes)))

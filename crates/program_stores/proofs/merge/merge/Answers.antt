@@ -3,7 +3,7 @@ use Rattle.store_files.specs.Disk.{replay, seen}
 use Rattle.store_files.specs.Paths.{IsPath}
 use Rattle.program_base.specs.StoresOnDisk.{HasStore, IsReaderOf}
 use Rattle.program_stores.specs.Merged.{words_for, IsReaderIn, AreMerged}
-use Rattle.program_stores.proofs.GivenLemmas.{on_ok_is}
+use Rattle.store_published.proofs.Results.{on_ok_is}
 use Rattle.program_stores.proofs.MergedLemmas.{merged_at, published_as}
 use Rattle.program_stores.proofs.merge.merge.Goals as goal
 
