@@ -16,7 +16,7 @@ DECLARED = (
 )
 WRITTEN = {
     "program_base/src/failure.rt": r'(?:write!\(\s*f,\s+|f\.write_str\(|FailureCause::\w+ => )"([^;"][^"]*)"',
-    "program_logs/src/log_refusal.rt": r'(?:LogError::\w+ => \(\s*|text: )"([^"]+)"',
+    "program_base/src/log_refusal.rt": r'LogRefusal::\w+ => \(\s*"([^"]+)"',
     "program_stores/src/merge.rt": r'format!\(in alloc; "(--[^"]+)"',
     "store_commands/src/number_range.rt": r'"(\'\{word\}\'[^"]+)"',
     "store_commands/src/broken_part.rt": r'(?:f,\s+|f\.write_str\()"([^"]+)"',

@@ -31,6 +31,9 @@ class Refused(OldStoreCase):
             self.program.fails(1, "events/lock is not a plain file", "log", "append", "events", input=b"x", timeout=20)
         self.assertEqual(sorted(os.listdir(self.folder / "events")), ["lock", "tail.log"])
 
+    def test_the_name_of_a_lock_is_refused(self):
+        self.assert_refused(1, "lock", "the name is kept for the lock of a folder", "pack", "lock", input=b"x")
+
     def test_a_link_to_nothing_is_refused(self):
         (self.folder / "link.store").symlink_to("none.store")
         self.assert_refused(3, "link.store", "No such file or directory", "pack", "link.store", input=b"x")

@@ -53,7 +53,9 @@ class Crate:
     def is_settled(self, since: float) -> bool:
         """Whether its library and those below it were made after a time, and none just now: it may not be whole."""
         needed = [*self.below(), *([] if self.kind else [self])]
-        return all(one.is_left() and since < one.library().stat().st_mtime < time.time() - SETTLED for one in needed)
+        if not all(one.library().is_dir() for one in needed):
+            return False
+        return all(since < one.library().stat().st_mtime < time.time() - SETTLED and one.is_left() for one in needed)
 
     def functions(self) -> Iterator[str]:
         """The functions of the library that `rt ci` built of it, by their paths below the crate."""
@@ -61,6 +63,7 @@ class Crate:
         for name, *_ in json.loads(code.read_bytes()) if code.is_file() else ():
             yield name.partition("::")[2]
 
+    @functools.cache
     def below(self) -> list[Crate]:
         """The libraries of the repository below it, lowest first."""
         found: list[Crate] = []

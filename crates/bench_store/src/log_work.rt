@@ -5,10 +5,12 @@ use crate::measure::{Run, Workload};
 use anyhow::{Result, bail};
 use docstore::DocId;
 use segmented_log::{Commit, SegmentedLog};
+use std::alloc::Global;
 use std::fs;
 use std::rt::Clock;
 use std::time::Instant;
 use store_files::{DiskFolder, HostFiles};
+use store_folder::ReadableFolder;
 
 // The log's folder.
 const PATH: &str = "bench.log";
@@ -19,46 +21,51 @@ const SEAL_SIZE: usize = 8 << 20;
 // How many records of a log that is only read were on the disk at once.
 const MADE_BATCH: u64 = 10_000;
 
-type Log = SegmentedLog<DiskFolder<HostFiles>>;
+// A log in a box: what owns it is proved in less time, and so is what works on the log of any folder.
+type Log = Box<SegmentedLog<DiskFolder<HostFiles>>>;
 
-// Opens the log of the folder, or begins one.
-fn open(rt: &HostRuntime) -> Result<Log> {
-    let folder = DiskFolder::create(rt.alloc(), HostFiles::new(rt)?, PATH)?;
-    match SegmentedLog::open(rt.alloc(), folder, SEAL_SIZE, Commit::OneSync) {
-        Ok(log) => Ok(log),
+// Opens the log of a folder, or begins one.
+fn open_in<F: ReadableFolder>(alloc: Global, folder: F) -> Result<Box<SegmentedLog<F>>> {
+    match SegmentedLog::open(alloc, folder, SEAL_SIZE, Commit::OneSync) {
+        Ok(log) => Ok(Box::new(alloc, log)?),
         Err((error, _)) => Err(error.into()),
     }
 }
 
-// The same in a box, for what is not timed: what owns it is proved in less time.
-fn boxed(rt: &HostRuntime) -> Result<Box<Log>> {
-    Ok(Box::new(rt.alloc(), open(rt)?)?)
+// Opens the log of the folder on disk.
+fn open(rt: &HostRuntime) -> Result<Log> {
+    let folder = DiskFolder::create(rt.alloc(), HostFiles::new(rt)?, PATH)?;
+    open_in(rt.alloc(), folder)
 }
 
-// Appends documents, each batch synced before the next.
-fn append_all(log: &mut Log, documents: &Documents, count: usize, batch: u64) -> Result<()> {
-    for i in 0..count {
-        log.append(documents.get(i))?;
-        if log.pending() >= batch {
-            log.sync()?;
-        }
+// Appends a document, and puts it on the disk with those before it once they are a batch.
+fn append<F: ReadableFolder>(log: &mut SegmentedLog<F>, document: &[u8], batch: u64) -> Result<()> {
+    log.append(document)?;
+    if log.pending() >= batch {
+        log.sync()?;
     }
-    log.sync()?;
     Ok(())
 }
 
-// Reads all records by another opening of the log.
-fn read_all(rt: &HostRuntime) -> Result<Slots> {
-    let mut log = boxed(rt)?;
-    let mut slots = Slots::new();
-    for record in log.iter_from(0)? {
-        slots.add(&record?);
+// Appends documents, each batch synced before the next.
+fn append_all<F: ReadableFolder>(
+    log: &mut SegmentedLog<F>,
+    documents: &Documents,
+    count: usize,
+    batch: u64,
+) -> Result<()> {
+    for i in 0..count {
+        append(log, documents.get(i), batch)?;
     }
-    Ok(slots)
+    Ok(log.sync()?)
 }
 
 // Adds the record of this number.
-fn add_record(log: &mut Log, number: u64, slots: &mut Slots) -> Result<()> {
+fn add_record<F: ReadableFolder>(
+    log: &mut SegmentedLog<F>,
+    number: u64,
+    slots: &mut Slots,
+) -> Result<()> {
     match log.get(number)? {
         Some(record) => slots.add(&record),
         None => bail!("there is no record {number}"),
@@ -66,10 +73,24 @@ fn add_record(log: &mut Log, number: u64, slots: &mut Slots) -> Result<()> {
     Ok(())
 }
 
+// Gets all records of a log, one after the other.
+fn list<F: ReadableFolder>(log: &mut SegmentedLog<F>) -> Result<Slots> {
+    let mut slots = Slots::new();
+    for number in log.first()..log.end() {
+        add_record(log, number, &mut slots)?;
+    }
+    Ok(slots)
+}
+
+// Reads all records by another opening of the log.
+fn read_all(rt: &HostRuntime) -> Result<Slots> {
+    list(&mut *open(rt)?)
+}
+
 /// Makes the log that is read.
 pub fn make_log(rt: &HostRuntime, documents: &Documents, count: usize) -> Result<()> {
-    let mut log = boxed(rt)?;
-    append_all(&mut log, documents, count, MADE_BATCH)
+    let mut log = open(rt)?;
+    append_all(&mut *log, documents, count, MADE_BATCH)
 }
 
 /// Removes the log.
@@ -89,9 +110,9 @@ pub struct AppendLog<'a> {
 
 impl<'a> Workload for AppendLog<'a> {
     fn run<C: Clock>(&mut self, clock: &C) -> Result<Run> {
-        let mut log = boxed(self.rt)?;
+        let mut log = open(self.rt)?;
         let start = Instant::now(clock)?;
-        append_all(&mut log, &self.documents, self.count, self.batch)?;
+        append_all(&mut *log, &self.documents, self.count, self.batch)?;
         let time = start.elapsed(clock)?;
         drop(log);
         let slots = read_all(self.rt)?;
@@ -111,7 +132,7 @@ fn open_again(rt: &HostRuntime, times: u64) -> Result<Slots> {
     let mut slots = Slots::new();
     for _ in 0..times {
         let mut log = open(rt)?;
-        add_record(&mut log, 0, &mut slots)?;
+        add_record(&mut *log, 0, &mut slots)?;
     }
     Ok(slots)
 }
@@ -134,7 +155,7 @@ pub struct GetLog<'a> {
     pub numbers: Vec<DocId>,
 }
 
-fn get_all(log: &mut Log, numbers: &[DocId]) -> Result<Slots> {
+fn get_all<F: ReadableFolder>(log: &mut SegmentedLog<F>, numbers: &[DocId]) -> Result<Slots> {
     let mut slots = Slots::new();
     for number in numbers {
         add_record(log, u64::from(*number), &mut slots)?;
@@ -144,9 +165,9 @@ fn get_all(log: &mut Log, numbers: &[DocId]) -> Result<Slots> {
 
 impl<'a> Workload for GetLog<'a> {
     fn run<C: Clock>(&mut self, clock: &C) -> Result<Run> {
-        let mut log = boxed(self.rt)?;
+        let mut log = open(self.rt)?;
         let start = Instant::now(clock)?;
-        let slots = get_all(&mut log, &self.numbers)?;
+        let slots = get_all(&mut *log, &self.numbers)?;
         let time = start.elapsed(clock)?;
         Ok(slots.run(time))
     }

@@ -2,6 +2,8 @@
 
 ghost use Rattle.std.specs.Prelude.{◌≡◌, Ok, IfOk};
 
+use crate::log_refusal::LogRefusal;
+use crate::progress::Things;
 use crate::status::Status;
 use docstore::StoreError;
 use std::alloc::{AllocError, AllocFailed, Global};
@@ -10,15 +12,7 @@ use std::{fmt, io};
 use store_commands::RequestError;
 use store_files::CreateError;
 
-/// Why a log refuses a call: what is wrong, what to do, where there is something to do, and the status.
-#[derive(Clone, Copy)]
-pub struct LogRefusal {
-    pub text: &'static str,
-    pub advice: &'static str,
-    pub status: Status,
-}
-
-/// What went wrong.
+/// What went wrong. It has no texts: what owns a `&'static str` is proved in more time.
 #[derive(Drop)]
 pub enum FailureCause {
     /// The words of the command line are wrong.
@@ -48,14 +42,10 @@ pub enum FailureCause {
     CutInput,
     /// Another number of documents or records came than was expected.
     OtherCount {
-        things: &'static str,
+        things: Things,
         expected: u64,
         came: u64,
     },
-    /// There is no log in the folder, and no place for a new one.
-    NotLog,
-    /// Another process writes the log.
-    BusyLog,
     /// A call on a log was refused.
     Log(LogRefusal),
     /// The log has no record of this number: its records have the numbers from `first` to before `end`.
@@ -86,9 +76,7 @@ impl FailureCause {
             FailureCause::InputIsOutput => "this input is the output too",
             FailureCause::NoTantivyTail => "no footer of tantivy's directory at the end",
             FailureCause::CutInput => "the input ends inside a document",
-            FailureCause::NotLog => "not a log",
-            FailureCause::BusyLog => "the log is being written by another",
-            FailureCause::Log(refusal) => refusal.text,
+            FailureCause::Log(refusal) => refusal.says().0,
             _ => "",
         }
     }
@@ -97,12 +85,9 @@ impl FailureCause {
     fn advice(&self) -> &'static str {
         match self {
             FailureCause::Words(_) => "; try '--help'",
-            FailureCause::Create(CreateError::Busy(_)) | FailureCause::BusyLog => {
-                "; wait until it ends, or stop it"
-            }
-            FailureCause::NotLog => "; 'zevkhadun log append' begins one in a new or empty folder",
+            FailureCause::Create(CreateError::Busy(_)) => "; wait until it ends, or stop it",
             FailureCause::DamagedRecord(_) => "; 'zevkhadun log verify' says where",
-            FailureCause::Log(refusal) => refusal.advice,
+            FailureCause::Log(refusal) => refusal.says().1,
             FailureCause::Create(CreateError::Exists) =>
                 "; choose another name, or give '--replace'",
             FailureCause::InputIsOutput => "; write to another name, and rename that file",
@@ -120,10 +105,8 @@ impl FailureCause {
         match self {
             FailureCause::Words(_) | FailureCause::NoText => Status::Usage,
             FailureCause::Create(error) => status_of_output(error),
-            FailureCause::System(_) | FailureCause::Output(_) | FailureCause::BusyLog => {
-                Status::System
-            }
-            FailureCause::Log(refusal) => refusal.status,
+            FailureCause::System(_) | FailureCause::Output(_) => Status::System,
+            FailureCause::Log(refusal) => refusal.says().2,
             FailureCause::Store(error) => status_of(error),
             FailureCause::Request(RequestError::Store(error)) => status_of(error),
             FailureCause::Line { .. }
@@ -132,7 +115,6 @@ impl FailureCause {
             | FailureCause::NoTantivyTail
             | FailureCause::CutInput
             | FailureCause::OtherCount { .. }
-            | FailureCause::NotLog
             | FailureCause::NoRecord { .. }
             | FailureCause::DamagedRecord(_) => Status::Broken,
             FailureCause::Reported(status) => *status,

@@ -2,6 +2,7 @@
 
 use crate::command_words::Argument;
 use crate::failure::Failure;
+use crate::progress::Things;
 use crate::word_files::{add_lines, text_in};
 use clap::ArgMatches;
 use document_framing::InputFault;
@@ -99,7 +100,7 @@ pub fn input_failure(alloc: Global, paths: &[&str], error: InputFault) -> Failur
 }
 
 /// Says that documents or records are read from the terminal, if the standard input is among these inputs and is one.
-pub fn note_terminal(rt: &HostRuntime, paths: &[&str], things: &str) {
+pub fn note_terminal(rt: &HostRuntime, paths: &[&str], things: Things) {
     if paths.contains(&STANDARD_INPUT) && rt.stdin().is_terminal() {
         let _ = eprintln!(rt; "reading {things} from the terminal; end with Ctrl-D");
     }

@@ -1,7 +1,7 @@
 //! How far the documents of inputs are, on a terminal.
 
 use crate::input_files::{note_terminal, total_bytes};
-use crate::progress::Progress;
+use crate::progress::{Progress, Things};
 use document_framing::{FeedProgress, Framing};
 
 /// A line that counts the documents of inputs, and their bytes with those that delimit them.
@@ -26,7 +26,7 @@ impl<'a> InputProgress<'a> {
     pub fn begin(
         rt: &'a HostRuntime,
         is_quiet: bool,
-        things: &'static str,
+        things: Things,
         framing: Framing,
         paths: &[&str],
     ) -> InputProgress<'a> {

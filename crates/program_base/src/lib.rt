@@ -12,6 +12,7 @@ pub mod findings;
 pub mod input_files;
 pub mod input_progress;
 pub mod listed_numbers;
+pub mod log_refusal;
 pub mod named_numbers;
 pub mod numbered;
 pub mod output_path;

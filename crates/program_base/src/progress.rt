@@ -12,13 +12,29 @@ const DOCUMENTS_A_LINE: u64 = 1 << 16;
 
 const BYTES_A_LINE: u64 = 1 << 26;
 
+/// What is counted.
+#[derive(Clone, Copy)]
+pub enum Things {
+    Documents,
+    Records,
+}
+
+impl fmt::Display for Things {
+    fn fmt<W: fmt::Write>(&self, f: &mut fmt::Formatter<W>) -> fmt::Result {
+        f.write_str(match self {
+            Things::Documents => "documents",
+            Things::Records => "records",
+        })
+    }
+}
+
 /// A line on the standard error, written again as the work goes on; nothing where that is no terminal. It has at most
 /// 39 columns, since the terminal's width is not known.
 #[derive(Drop)]
 pub struct Progress<'a> {
     rt: &'a HostRuntime,
     is_shown: bool,
-    things: &'static str,
+    things: Things,
     begun: Option<Instant>,
     total: Option<u64>,
     documents: u64,
@@ -49,7 +65,7 @@ impl<'a> Progress<'a> {
         Progress {
             rt,
             is_shown: !is_quiet && rt.stderr().is_terminal(),
-            things: "documents",
+            things: Things::Documents,
             begun: Instant::now(rt).ok(),
             total,
             documents: 0,
@@ -59,8 +75,8 @@ impl<'a> Progress<'a> {
         }
     }
 
-    /// The same, which counts things of this name.
-    pub fn counting(mut self, things: &'static str) -> Progress<'a> {
+    /// The same, which counts these things.
+    pub fn counting(mut self, things: Things) -> Progress<'a> {
         self.things = things;
         self
     }

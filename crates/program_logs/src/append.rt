@@ -22,7 +22,7 @@ use program_base::document_output::{DocumentOutput, standard_output};
 use program_base::failure::{Failure, FailureCause, with_file};
 use program_base::input_files::{INPUT, InputList, files_from, input_failure, inputs, null};
 use program_base::input_progress::InputProgress;
-use program_base::progress::Progress;
+use program_base::progress::{Progress, Things};
 use segmented_log::Commit;
 use std::alloc::{AllocError, Global};
 use std::io::Write;
@@ -148,7 +148,13 @@ fn appending_of<'a, S: SystemFiles, W: Write + Drop>(
 {
     let rt = logs.rt;
     let log = logs.open_or_begin(path, options.tail)?;
-    let progress = InputProgress::begin(rt, options.is_quiet, "records", options.framing, paths);
+    let progress = InputProgress::begin(
+        rt,
+        options.is_quiet,
+        Things::Records,
+        options.framing,
+        paths,
+    );
     Ok(Appending::new(log, options.policy, output, progress))
 }
 
@@ -167,7 +173,7 @@ fn failure_of(alloc: Global, path: &str, paths: &[&str], error: AppendError) -> 
         AppendError::Log(error) => refused(error),
         AppendError::Output(error) => FailureCause::Output(error),
         AppendError::OtherCount { expected, came } => FailureCause::OtherCount {
-            things: "records",
+            things: Things::Records,
             expected,
             came,
         },

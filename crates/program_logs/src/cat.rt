@@ -106,8 +106,9 @@ pub fn print<S: SystemFiles, W: Write>(
         → IfOk result (λ next. next ≡ max (max from (first + length all - most)) (first + length all)) }
 {
     let mut read = logs.open_to_read(path)?;
+    let read = &mut *read;
     let from = from.max(read.end().saturating_sub(most));
-    print_from(logs.rt.alloc(), &mut read, form, from, output)
+    print_from(logs.rt.alloc(), read, form, from, output)
 }
 
 // Prints the records from a number on as they come, until a call fails.

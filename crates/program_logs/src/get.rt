@@ -15,7 +15,7 @@ use document_framing::DocumentForm;
 use framed_logs::{ReadLog, print_records};
 use program_base::arguments;
 use program_base::command_words::{Argument, command_of};
-use program_base::document_output::{self, form_of, standard_output};
+use program_base::document_output::{self, DocumentOutput, form_of, standard_output};
 use program_base::failure::FailureCause;
 use program_base::listed_numbers::is_listed;
 use program_base::numbered::{Numbered, print_listed, print_ranges};
@@ -73,7 +73,7 @@ fn print_range_of<F: ReadableFolder, W: Write>(
 // An opened log, whose records are printed by their numbers.
 #[derive(Drop)]
 struct NumberedLog<F: ReadableFolder> {
-    read: ReadLog<F>,
+    read: Box<ReadLog<F>>,
 }
 
 impl<F: ReadableFolder> Numbered for NumberedLog<F> {
@@ -84,8 +84,8 @@ impl<F: ReadableFolder> Numbered for NumberedLog<F> {
     ghost use Rattle.segmented_log.specs.Log.{IsLog};
     ghost use Rattle.store_format.specs.Block.{Slot};
 
-    ghost prints = { λ form ranges old new before after. (new.read.folder ≡ old.read.folder)
-        × (IsTrue F.honest → (first : ℕ) (all : List Slot) → IsLog first all (F.seen old.read.folder)
+    ghost prints = { λ form ranges old new before after. (new.read.value.folder ≡ old.read.value.folder)
+        × (IsTrue F.honest → (first : ℕ) (all : List Slot) → IsLog first all (F.seen old.read.value.folder)
         → PrintsEach (IsRangeShown form first all) ranges before after) };
 
     fn print<W: Write>(
@@ -104,7 +104,8 @@ impl<F: ReadableFolder> Numbered for NumberedLog<F> {
     ) };
 
     ghost prints_more = { λ form first next old middle new before between after p q.
-        given_more F.honest F.seen form old.read.folder middle.read.folder new.read.folder first next
+        given_more F.honest F.seen form old.read.value.folder middle.read.value.folder
+        new.read.value.folder first next
         before between after p q };
 }
 
@@ -130,21 +131,30 @@ pub fn print_named<S: SystemFiles, W: Write>(
     check_end(&log.read)
 }
 
+// Prints the records of the log at a path whose numbers are in the standard input.
+fn print_input<S: SystemFiles>(
+    logs: &ReadLogs<'_, S>,
+    path: &str,
+    form: DocumentForm,
+    output: &mut DocumentOutput<'_>,
+) -> Result<(), FailureCause> {
+    let read = logs.open_to_read(path)?;
+    let mut log = NumberedLog { read };
+    print_listed(logs.rt.alloc(), &mut log, form, logs.rt.reader(), output)?;
+    check_end(&log.read)
+}
+
 /// Prints the records that words name, or those whose numbers are in the standard input.
 pub fn run<S: SystemFiles>(
     logs: &ReadLogs<'_, S>,
     path: &str,
     matches: &ArgMatches<'_>,
 ) -> Result<(), FailureCause> {
-    let (rt, alloc) = (logs.rt, logs.rt.alloc());
-    let form = form_of(alloc, matches)?;
+    let form = form_of(logs.rt.alloc(), matches)?;
     let words = matches.get_strs("NUMBER").unwrap_or(&[]);
-    let mut output = standard_output(rt)?;
-    if !is_listed(words) {
-        return print_named(logs, path, form, words, &mut output);
+    let mut output = standard_output(logs.rt)?;
+    match is_listed(words) {
+        true => print_input(logs, path, form, &mut output),
+        false => print_named(logs, path, form, words, &mut output),
     }
-    let read = logs.open_to_read(path)?;
-    let mut log = NumberedLog { read };
-    print_listed(alloc, &mut log, form, rt.reader(), &mut output)?;
-    check_end(&log.read)
 }

@@ -1,13 +1,13 @@
 //! The commands of `log`: a log of records in a folder grows by `append`, and its records are read by their numbers.
 #![tactic(auto)]
 
-mod append;
+pub mod append;
 mod cat;
 mod compact;
 mod drop;
 mod get;
 mod log_refusal;
-mod logs;
+pub mod logs;
 mod places;
 mod record_span;
 mod repair;

@@ -1,47 +1,24 @@
 //! What the program reports where a log refuses a call.
 
 use framed_logs::{PrintError, ReadError};
-use program_base::failure::{FailureCause, LogRefusal};
-use program_base::status::Status;
+use program_base::failure::FailureCause;
+use program_base::log_refusal::LogRefusal;
 use segmented_log::LogError;
 use store_commands::RequestError;
 
-// What to do where files or a record of a log are broken.
-const VERIFY: &str = "; 'zevkhadun log verify' says where";
-
-// What to do where bytes of the tail are damaged.
-const REPAIR: &str = "; get it from a copy, or see 'zevkhadun log repair --help'";
-
-/// That a folder has segments of a log, and no tail.
-pub const NO_TAIL: FailureCause = FailureCause::Log(LogRefusal {
-    text: "tail.log is missing",
-    advice: "; get it from a copy, or make an empty one as docs/LOG.md says",
-    status: Status::Broken,
-});
-
 /// Why a call failed that a log refuses with this error.
 pub fn refused(error: LogError) -> FailureCause {
-    let (text, advice, status) = match error {
+    FailureCause::Log(match error {
         LogError::Failed(reason) => return FailureCause::System(reason),
-        LogError::Memory => ("no memory", "", Status::System),
-        LogError::Unsynced => ("a sync of a segment has failed", "", Status::System),
-        LogError::Full => ("the log is full", "", Status::Broken),
-        LogError::BatchFull => (
-            "the batch is full",
-            "; use '--sync batch', without '--expect'",
-            Status::Broken,
-        ),
-        LogError::TooLong => ("the record is too long", "", Status::Broken),
-        LogError::Broken => ("the log must be opened again", "", Status::System),
-        LogError::Changed => ("the log must be opened again", "", Status::System),
-        LogError::NoLog => ("the log's files are broken", VERIFY, Status::Broken),
-        LogError::Damaged => ("a record is damaged", VERIFY, Status::Broken),
-        LogError::DamagedTail => ("the tail is damaged", REPAIR, Status::Broken),
-    };
-    FailureCause::Log(LogRefusal {
-        text,
-        advice,
-        status,
+        LogError::Memory => LogRefusal::Memory,
+        LogError::Unsynced => LogRefusal::Unsynced,
+        LogError::Full => LogRefusal::Full,
+        LogError::BatchFull => LogRefusal::BatchFull,
+        LogError::TooLong => LogRefusal::TooLong,
+        LogError::Broken | LogError::Changed => LogRefusal::Reopen,
+        LogError::NoLog => LogRefusal::BrokenFiles,
+        LogError::Damaged => LogRefusal::DamagedRecord,
+        LogError::DamagedTail => LogRefusal::DamagedTail,
     })
 }
 
@@ -50,7 +27,7 @@ pub fn unread(error: ReadError) -> FailureCause {
     match error {
         ReadError::NoRecord { number, first, end } => FailureCause::NoRecord { number, first, end },
         ReadError::Damaged(number) => FailureCause::DamagedRecord(number),
-        ReadError::Busy => FailureCause::BusyLog,
+        ReadError::Busy => FailureCause::Log(LogRefusal::Busy),
         ReadError::Log(error) => refused(error),
     }
 }

@@ -1,13 +1,16 @@
 //! The logs in a system, and how they are opened.
 
-ghost use Rattle.std.specs.Prelude.{◌≡◌, ℕ, List, [], Ok, IfOk, IsTrue};
+ghost use Rattle.std.specs.Prelude.{◌≡◌, ◌+◌, ℕ, List, [], Ok, IfOk, IsTrue, length};
 ghost use Rattle.program_logs.specs.Appended.{IsOpened};
+ghost use Rattle.segmented_log.specs.Log.{IsLog};
 ghost use Rattle.store_files.specs.Disk.{replay, seen};
+ghost use Rattle.store_format.specs.Block.{Slot};
 
 use crate::log_refusal::{refused, unread};
 use crate::places::{check_log, check_place, segment_numbers, tail_bytes};
 use framed_logs::ReadLog;
 use program_base::failure::FailureCause;
+use program_base::log_refusal::LogRefusal;
 use segmented_log::{Commit, SegmentedLog};
 use std::alloc::Global;
 use std::marker::Model;
@@ -30,8 +33,11 @@ pub type ReadLogs<'a, S> = Logs<'a, Rc<S, Global>>;
 /// parts.
 pub type WrittenLog<S> = Box<SegmentedLog<DiskFolder<S>>>;
 
-/// A log that is open to be read, as it was when it was opened first.
-pub type OpenLog<S> = ReadLog<DiskFolder<Rc<S, Global>>>;
+/// A log that is open to be read, as it was when it was opened first, in a box, too.
+pub type OpenLog<S> = Box<ReadLog<DiskFolder<Rc<S, Global>>>>;
+
+/// The number of a log's first record, the one after its last record, and whether the tail is damaged after it.
+pub(crate) type Bounds = (u64, u64, Result<(), FailureCause>);
 
 /// How the tail of a log is written: how a sync puts records on the disk, and the size in bytes past which it is
 /// sealed.
@@ -94,7 +100,7 @@ fn locked<S: SystemFiles>(
 {
     match folder {
         Ok(folder) => Ok(Box::new(alloc, folder)?),
-        Err(CreateError::Busy(_)) => Err(FailureCause::BusyLog),
+        Err(CreateError::Busy(_)) => Err(FailureCause::Log(LogRefusal::Busy)),
         Err(error) => Err(FailureCause::Create(error)),
     }
 }
@@ -135,14 +141,26 @@ impl<'a, S: SystemFiles> Logs<'a, Rc<S, Global>> {
     /// Opens a log that is there, to read it. Nothing is changed, and a writer may go on. Of a log whose tail is
     /// damaged it has the records before the damage.
     pub fn open_to_read(&self, path: &str) -> Result<OpenLog<S>, FailureCause>
-        ensures system { IfOk result (λ read. read.folder.system.value ≡ self.now.value) }
-        ensures path { IfOk result (λ read. read.folder.path ≡ path.now) }
+        ensures system { IfOk result (λ read. read.value.folder.system.value ≡ self.now.value) }
+        ensures path { IfOk result (λ read. read.value.folder.path ≡ path.now) }
     {
         check_log(self.rt, path)?;
         let _plain = segment_numbers(self.rt, path)?;
         let alloc = self.rt.alloc();
         let folder = DiskFolder::open_to_read(alloc, self.system.clone()?, path)?;
-        ReadLog::open(alloc, Box::new(alloc, folder)?).map_err(unread)
+        let read = ReadLog::open(alloc, Box::new(alloc, folder)?).map_err(unread)?;
+        Ok(Box::new(alloc, read)?)
+    }
+
+    /// The bounds of the log at a path, which is opened for them.
+    pub(crate) fn bounds(&self, path: &str) -> Result<Bounds, FailureCause>
+        ensures { IsTrue S.honest → (first : ℕ) (all : List Slot)
+            → IsLog first all (seen (replay (S.changes self.now.value path.now) (S.start path.now)))
+            → IfOk result (λ bounds. (bounds.0 ≡ first) × (bounds.1 ≡ first + length all)) }
+    {
+        let read = self.open_to_read(path)?;
+        let read = &*read;
+        Ok((read.first(), read.end(), check_end(read)))
     }
 
     /// The system itself.

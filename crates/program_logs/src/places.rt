@@ -1,7 +1,7 @@
 //! What is at the path of a log: its files, as the system lists them.
 
-use crate::log_refusal::NO_TAIL;
 use program_base::failure::{Failure, FailureCause};
+use program_base::log_refusal::LogRefusal;
 use program_base::status::Status;
 use segmented_log::{TAIL, segment_number};
 use std::alloc::{AllocError, Global};
@@ -99,14 +99,14 @@ fn check_found(
     may_begin: bool,
 ) -> Result<(), FailureCause> {
     if !found.is_dir() {
-        return Err(FailureCause::NotLog);
+        return Err(FailureCause::Log(LogRefusal::NotLog));
     }
     if tail_bytes(rt, path)?.is_some() || (may_begin && is_blank(rt, path)?) {
         return Ok(());
     }
     match segment_numbers(rt, path)?.is_empty() {
-        true => Err(FailureCause::NotLog),
-        false => Err(NO_TAIL),
+        true => Err(FailureCause::Log(LogRefusal::NotLog)),
+        false => Err(FailureCause::Log(LogRefusal::NoTail)),
     }
 }
 

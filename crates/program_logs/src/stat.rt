@@ -1,7 +1,7 @@
 //! `log stat`: prints counts and sizes of logs.
 
 use crate::FOLDER;
-use crate::logs::{ReadLogs, check_end};
+use crate::logs::ReadLogs;
 use crate::places::{file_in, segment_numbers, tail_bytes};
 use clap::{ArgMatches, Command};
 use program_base::command_words::{Argument, command_of};
@@ -37,16 +37,21 @@ pub fn command<'a>(alloc: Global) -> Result<Command<'a>, AllocError> {
     )
 }
 
-// How many bytes the segments of these numbers have together.
-fn bytes_of_segments(rt: &HostRuntime, path: &str, segments: &[u64]) -> Result<u64, FailureCause> {
-    let alloc = rt.alloc();
+// How many bytes the segment of this number has.
+fn bytes_of_segment(rt: &HostRuntime, path: &str, first: u64) -> Result<u64, FailureCause> {
+    let name = segment_file(rt.alloc(), first)?;
+    let file = file_in(rt.alloc(), path, name.as_str())?;
+    Ok(fs::metadata(rt, file.as_str())?.len())
+}
+
+// How many segments a log has, and how many bytes they have together.
+fn segments_of(rt: &HostRuntime, path: &str) -> Result<(u64, u64), FailureCause> {
+    let segments = segment_numbers(rt, path)?;
     let mut bytes = 0u64;
-    for first in segments {
-        let name = segment_file(alloc, *first)?;
-        let file = file_in(alloc, path, name.as_str())?;
-        bytes = bytes.saturating_add(fs::metadata(rt, file.as_str())?.len());
+    for first in &segments {
+        bytes = bytes.saturating_add(bytes_of_segment(rt, path, *first)?);
     }
-    Ok(bytes)
+    Ok((segments.len() as u64, bytes))
 }
 
 // Prints the numbers of a log, in lines or as JSON.
@@ -55,28 +60,19 @@ fn print<S: SystemFiles>(
     path: &str,
     is_json: bool,
 ) -> Result<(), FailureCause> {
-    let rt = logs.rt;
-    let read = logs.open_to_read(path)?;
-    let segments = segment_numbers(rt, path)?;
-    let (first, next) = (read.first(), read.end());
+    let (first, next, end) = logs.bounds(path)?;
+    let (segments, segment_bytes) = segments_of(logs.rt, path)?;
+    let tail_bytes = tail_bytes(logs.rt, path)?.unwrap_or(0);
     let numbers = [
         ("records", "records", next.saturating_sub(first)),
         ("first number", "first", first),
         ("next number", "next", next),
-        ("segments", "segments", segments.len() as u64),
-        (
-            "segment bytes",
-            "segment_bytes",
-            bytes_of_segments(rt, path, &segments)?,
-        ),
-        (
-            "tail bytes",
-            "tail_bytes",
-            tail_bytes(rt, path)?.unwrap_or(0),
-        ),
+        ("segments", "segments", segments),
+        ("segment bytes", "segment_bytes", segment_bytes),
+        ("tail bytes", "tail_bytes", tail_bytes),
     ];
-    print_named(rt, "folder", path, &numbers, is_json)?;
-    check_end(&read)
+    print_named(logs.rt, "folder", path, &numbers, is_json)?;
+    end
 }
 
 /// Prints the numbers of each log. It goes on after one that can't be read, and fails at the end.

@@ -150,11 +150,11 @@ fn print_whole<S: SystemFiles>(
     segments: usize,
     is_quiet: bool,
 ) -> Result<(), FailureCause> {
-    let read = logs.open_to_read(path)?;
+    let (first, next, _end) = logs.bounds(path)?;
     if is_quiet {
         return Ok(());
     }
-    let records = read.end().saturating_sub(read.first());
+    let records = next.saturating_sub(first);
     let record = if records == 1 { "record" } else { "records" };
     let segment = if segments == 1 { "segment" } else { "segments" };
     to_output(println!(logs.rt;

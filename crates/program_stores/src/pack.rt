@@ -17,6 +17,7 @@ use program_base::failure::{Failure, FailureCause, with_file};
 use program_base::input_files::{INPUT, InputList, files_from, input_failure, inputs, null};
 use program_base::input_progress::InputProgress;
 use program_base::output_path::{OutputPath, output_of};
+use program_base::progress::Things;
 use program_base::store_file::OpenReader;
 use program_base::store_output::{Outcome, OutputPlace, end_output, output_place};
 use std::alloc::{AllocError, Global};
@@ -91,7 +92,7 @@ fn failure_of<F: ReadAt>(
         PackError::Copy(failure) => FailureCause::from(failure),
         PackError::Store(error) => FailureCause::Store(error),
         PackError::OtherCount { expected, came } => FailureCause::OtherCount {
-            things: "documents",
+            things: Things::Documents,
             expected,
             came,
         },
@@ -143,7 +144,13 @@ pub fn publish_packed<S: SystemFiles, F: InputFiles + Drop>(
         files,
         paths,
         expected: options.expected,
-        progress: InputProgress::begin(rt, options.is_quiet, "documents", options.framing, paths),
+        progress: InputProgress::begin(
+            rt,
+            options.is_quiet,
+            Things::Documents,
+            options.framing,
+            paths,
+        ),
     };
     let outcome = place.publish(alloc, shape, &mut packed);
     let outcome = named(alloc, path, paths, outcome);

@@ -1,10 +1,11 @@
 -- What is known of the files stays so.
-use Rattle.std.proofs.Common.{le_of_eq, ◌≡◌, ◌≢◌, ◌⊎◌, inl, inr, ℕ, ◌≤◌, Bool, true, false, List, [], Option, Some, None, refl, sym, ◌∙◌, ap, subst, nat_eq, arith, IsTrue}
+use Rattle.std.proofs.Common.{le_of_eq, ◌≡◌, ◌≢◌, ◌⊎◌, inl, inr, ℕ, ◌≤◌, Bool, true, false, List, [], ◌∷◌, Option, Some, None, refl, sym, ◌∙◌, ap, subst, nat_eq, arith, IsTrue}
 use Rattle.std.specs.Prelude.{if◌then◌else◌, option_map, is_some, not}
 use lib.Pointwise.{pointwise}
-use Rattle.store_files.specs.Disk.{Change, Disk, replay, seen, held, trusts}
+use Rattle.store_files.specs.Disk.{Change, Moved, Removed, Disk, replay, seen, held, trusts, Adds}
 use Rattle.store_files.specs.Steps.{Creates, Appends, SyncsFile, Renames, Removes, SyncsEntries}
 use Rattle.store_files.specs.Known.{Knows}
+use Rattle.store_files.proofs.StepLemmas.{renames, removes}
 use Rattle.std.specs.Prelude.{IfSome, IsSomeAnd, String, string_bytes}
 use Rattle.std.specs.declared.alloc.Global.{Global}
 use Rattle.store_files.specs.Paths.{IsIn}
@@ -37,6 +38,12 @@ at_name name s known = ap (λ (b : Bool). if b then s else known name) (equal na
 
 at_other : (name : List ℕ) (s : Standing) (known : List ℕ → Standing) (n : List ℕ) → n ≢ name → with_standing name s known n ≡ known n
 at_other name s known n ne = ap (λ (b : Bool). if b then s else known n) (unequal name n (λ e. ne (sym e)))
+
+as_known : (name : List ℕ) (known : List ℕ → Standing) (n : List ℕ) → with_standing name (known name) known n ≡ known n
+as_known name known n = elim (decided n name) [
+  | inl e ↦ ap (with_standing name (known name) known) e ∙ at_name name (known name) known ∙ sym (ap known e)
+  | inr ne ↦ at_other name (known name) known n ne
+]
 
 pub less : (known now : List ℕ → Standing) (was is : Bool) (d : Disk) → ((n : List ℕ) → rank (now n) ≤ rank (known n)) → (IsTrue is → IsTrue was) → Knows known was d → Knows now is d
 less known now was is d no_more fewer knows = record {
@@ -169,63 +176,64 @@ sync_failed name known now entries old new no_more knows syncs =
     (λ n bytes ne e holds. syncs.elsewhere n ne ∙ knows.synced n bytes e (syncs.files n bytes holds))
     (λ all n. syncs.entries n (knows.all_entries all n)))
 
--- ---- a file that is moved
+-- ---- a file that is moved: of a name that no file has any more, whatever is said is so
 
-pub moved_over : (from to : List ℕ) (others : Standing) (known now : List ℕ → Standing) (was is : Bool) (old new : Disk) → from ≢ to
-    → ((n : List ℕ) → rank (now n) ≤ rank (moved from to others known n)) → is ≡ false → Knows known was old → Renames from to true old new → Knows now is new
-moved_over from to others known now was is old new apart no_more none knows renames =
-    less (with_standing to (known from) (with_standing from (untouched others from) known)) now is is new
-    (λ n. subst (λ (s : Standing). rank (now n) ≤ rank s) (moved_is from to others known n) (no_more n)) (λ all. all)
-    (of_name to (known from) (with_standing from (untouched others from) known) is new
+pub moved_over : (from to : List ℕ) (s : Standing) (known now : List ℕ → Standing) (was is : Bool) (old new : Disk) → from ≢ to
+    → ((n : List ℕ) → rank (now n) ≤ rank (with_standing to (known from) (with_standing from s known) n)) → is ≡ false → Knows known was old → Renames from to true old new → Knows now is new
+moved_over from to s known now was is old new apart no_more none knows renames =
+    less (with_standing to (known from) (with_standing from s known)) now is is new no_more (λ all. all)
+    (of_name to (known from) (with_standing from s known) is new
     (λ ne. renames.moved refl (knows.trusted from ne))
     (λ bytes e holds. renames.renamed refl ∙ knows.synced from bytes e (renames.file refl bytes holds))
     (λ n nt trusted. elim (decided n from) [
       | inl e ↦ subst (λ (m : List ℕ). trusts new m) (sym e) (gone new from (renames.gone refl))
-      | inr nf ↦ renames.trust n nf nt (knows.trusted n (λ q. trusted (at_other from (untouched others from) known n nf ∙ q)))
+      | inr nf ↦ renames.trust n nf nt (knows.trusted n (λ q. trusted (at_other from s known n nf ∙ q)))
     ])
     (λ n bytes nt e holds. elim (decided n from) [
       | inl at ↦ subst (λ (m : List ℕ). seen new m ≡ Some bytes) (sym at) (gone_holds new from bytes (renames.gone refl) (subst (λ (m : List ℕ). held new m bytes) at holds))
-      | inr nf ↦ renames.elsewhere n nf nt ∙ knows.synced n bytes (sym (at_other from (untouched others from) known n nf) ∙ e) (renames.files n bytes nf nt holds)
+      | inr nf ↦ renames.elsewhere n nf nt ∙ knows.synced n bytes (sym (at_other from s known n nf) ∙ e) (renames.files n bytes nf nt holds)
     ])
     (not_kept is none))
 
--- nothing is known of either name where a renaming failed
-pub move_failed : (from to : List ℕ) (ok : Bool) (known now : List ℕ → Standing) (was is : Bool) (old new : Disk)
-    → ((n : List ℕ) → rank (now n) ≤ rank (with_standing from Failed (with_standing to Failed known) n)) → is ≡ false → Knows known was old → Renames from to ok old new → Knows now is new
-move_failed from to ok known now was is old new no_more none knows renames =
-    less (with_standing from Failed (with_standing to Failed known)) now is is new no_more (λ all. all)
-    (of_name from Failed (with_standing to Failed known) is new failed_trusts (λ bytes. failed_synced)
-    (λ n nf trusted. elim (decided n to) [
-      | inl e ↦ absurd (trusted (ap (with_standing to Failed known) e ∙ at_name to Failed known))
-      | inr nt ↦ renames.trust n nf nt (knows.trusted n (λ q. trusted (at_other to Failed known n nt ∙ q)))
-    ])
-    (λ n bytes nf e holds. elim (decided n to) [
-      | inl at ↦ failed_synced (sym (at_name to Failed known) ∙ sym (ap (with_standing to Failed known) at) ∙ e)
-      | inr nt ↦ renames.elsewhere n nf nt ∙ knows.synced n bytes (sym (at_other to Failed known n nt) ∙ e) (renames.files n bytes nf nt holds)
-    ])
-    (not_kept is none))
+pub moved_no_more : (from to : List ℕ) (others : Standing) (known now : List ℕ → Standing) → ((n : List ℕ) → rank (now n) ≤ rank (moved from to others known n))
+    → (n : List ℕ) → rank (now n) ≤ rank (with_standing to (known from) (with_standing from (untouched others from) known) n)
+moved_no_more from to others known now no_more n = subst (λ (s : Standing). rank (now n) ≤ rank s) (moved_is from to others known n) (no_more n)
+
+-- a file that may have its new name, of which no more is known than of the old one
+pub move_failed : (from to : List ℕ) (known : List ℕ → Standing) (entries : Bool) (start : Disk) (old new : List Change) → from ≢ to → rank (known to) ≤ rank (known from) → entries ≡ false
+    → Knows known entries (replay old start) → Adds false (Moved from to) old new → Knows known entries (replay new start)
+move_failed from to known entries start old new apart low none knows (inl same) = subst (λ (list : List Change). Knows known entries (replay list start)) (sym same) knows
+move_failed from to known entries start old new apart low none knows (inr made) = subst (λ (list : List Change). Knows known entries (replay list start)) (sym made)
+    (moved_over from to (known from) known known entries entries _ _ apart no_more none knows (renames from to true start old (Moved from to ∷ old) apart refl))
+  where
+    no_more : (n : List ℕ) → rank (known n) ≤ rank (with_standing to (known from) (with_standing from (known from) known) n)
+    no_more n = elim (decided n to) [
+      | inl e ↦ subst (λ (m : List ℕ). rank (known m) ≤ rank (with_standing to (known from) (with_standing from (known from) known) m)) (sym e)
+          (subst (λ (s : Standing). rank (known to) ≤ rank s) (sym (at_name to (known from) (with_standing from (known from) known))) low)
+      | inr ne ↦ le_of_eq (ap rank (sym (at_other to (known from) (with_standing from (known from) known) n ne ∙ as_known from known n)))
+    ]
 
 -- ---- a file that is removed
 
-pub removed : (name : List ℕ) (others : Standing) (known now : List ℕ → Standing) (was is : Bool) (old new : Disk)
-    → ((n : List ℕ) → rank (now n) ≤ rank (if pointwise nat_eq name n then untouched others n else known n)) → is ≡ false → Knows known was old → Removes name true old new
-    → Knows now is new
-removed name others known now was is old new no_more none knows removes =
-    less (with_standing name (untouched others name) known) now is is new
-    (λ n. subst (λ (s : Standing). rank (now n) ≤ rank s) (forgets_is name others known n) (no_more n)) (λ all. all)
-    (of_name name (untouched others name) known is new (λ _. gone new name (removes.removed refl)) (λ bytes _. gone_holds new name bytes (removes.removed refl))
+pub removed : (name : List ℕ) (s : Standing) (known now : List ℕ → Standing) (was is : Bool) (old new : Disk)
+    → ((n : List ℕ) → rank (now n) ≤ rank (with_standing name s known n)) → is ≡ false → Knows known was old → Removes name true old new → Knows now is new
+removed name s known now was is old new no_more none knows removes =
+    less (with_standing name s known) now is is new no_more (λ all. all)
+    (of_name name s known is new (λ _. gone new name (removes.removed refl)) (λ bytes _. gone_holds new name bytes (removes.removed refl))
     (λ n ne trusted. removes.trust n ne (knows.trusted n trusted))
     (λ n bytes ne e holds. removes.elsewhere n ne ∙ knows.synced n bytes e (removes.files n bytes ne holds))
     (not_kept is none))
 
-pub remove_failed : (name : List ℕ) (ok : Bool) (known now : List ℕ → Standing) (was is : Bool) (old new : Disk)
-    → ((n : List ℕ) → rank (now n) ≤ rank (with_standing name Failed known n)) → is ≡ false → Knows known was old → Removes name ok old new → Knows now is new
-remove_failed name ok known now was is old new no_more none knows removes =
-    less (with_standing name Failed known) now is is new no_more (λ all. all)
-    (of_name name Failed known is new failed_trusts (λ bytes. failed_synced)
-    (λ n ne trusted. removes.trust n ne (knows.trusted n trusted))
-    (λ n bytes ne e holds. removes.elsewhere n ne ∙ knows.synced n bytes e (removes.files n bytes ne holds))
-    (not_kept is none))
+pub forgotten_no_more : (name : List ℕ) (others : Standing) (known now : List ℕ → Standing) → ((n : List ℕ) → rank (now n) ≤ rank (if pointwise nat_eq name n then untouched others n else known n))
+    → (n : List ℕ) → rank (now n) ≤ rank (with_standing name (untouched others name) known n)
+forgotten_no_more name others known now no_more n = subst (λ (s : Standing). rank (now n) ≤ rank s) (forgets_is name others known n) (no_more n)
+
+-- a file that is there as it was, or gone
+pub remove_failed : (name : List ℕ) (known : List ℕ → Standing) (entries : Bool) (start : Disk) (old new : List Change) → entries ≡ false → Knows known entries (replay old start)
+    → Adds false (Removed name) old new → Knows known entries (replay new start)
+remove_failed name known entries start old new none knows (inl same) = subst (λ (list : List Change). Knows known entries (replay list start)) (sym same) knows
+remove_failed name known entries start old new none knows (inr made) = subst (λ (list : List Change). Knows known entries (replay list start)) (sym made)
+    (removed name (known name) known known entries entries _ _ (λ n. le_of_eq (ap rank (sym (as_known name known n)))) none knows (removes name true start old (Removed name ∷ old) refl))
 
 -- ---- a folder that is synced
 
@@ -295,16 +303,6 @@ passed_unsynced name known now no_more e =
 
 pub less_known : (known now : List ℕ → Standing) (was is : Bool) (d : Disk) → ((n : List ℕ) → rank (now n) ≤ rank (known n)) → is ≡ was → Knows known was d → Knows now is d
 less_known known now was is d no_more same = less known now was is d no_more (λ kept. subst (λ (b : Bool). IsTrue b) same kept)
-
--- two files of which nothing is known any more, one after the other
-pub fail_both : (from to : List ℕ) (known between now : List ℕ → Standing) → ((n : List ℕ) → rank (between n) ≤ rank (with_standing to Failed known n))
-    → ((n : List ℕ) → rank (now n) ≤ rank (with_standing from Failed between n)) → (n : List ℕ) → rank (now n) ≤ rank (with_standing from Failed (with_standing to Failed known) n)
-fail_both from to known between now first second n = elim (decided n from) [
-  | inl e ↦ subst (λ (m : List ℕ). rank (now m) ≤ rank (with_standing from Failed (with_standing to Failed known) m)) (sym e)
-      (subst (λ (s : Standing). rank (now from) ≤ rank s) (at_name from Failed between ∙ sym (at_name from Failed (with_standing to Failed known))) (second from))
-  | inr ne ↦ subst (λ (s : Standing). rank (now n) ≤ rank s) (sym (at_other from Failed (with_standing to Failed known) n ne))
-      (omega (arith, first n, subst (λ (s : Standing). rank (now n) ≤ rank s) (at_other from Failed between n ne) (second n)))
-]
 
 -- the open file after a renaming
 pub renamed_tracked : {F : Type 0} (old new : Disk) (folder from to : List ℕ) (opened_as : F → List ℕ) (number : F → ℕ) (name : String Global) (open_file result : Option (KeptFile F))

@@ -227,6 +227,17 @@ impl Knowledge {
         self.has_kept_entries = false;
     }
 
+    /// Keeps that a file may have another name: then no more is known of the file of that name than of this one.
+    pub(crate) fn doubt_move(&mut self, alloc: Global, from: &str, to: &str)
+        ensures files { (n : List ℕ) → rank (said self.new n) ≤ rank (said self.old n) }
+        ensures moved { rank (said self.new to.now) ≤ rank (said self.new from.now) }
+        ensures entries { self.new.has_kept_entries ≡ self.old.has_kept_entries }
+    {
+        if !self.is_synced(from) {
+            self.note(alloc, &Doing::SyncFailed(to));
+        }
+    }
+
     // Nothing is known from now on, as memory ran out.
     fn lose(&mut self)
         ensures others { self.new.others ≡ Standing.Failed }

@@ -226,10 +226,7 @@ impl<S: SystemFiles> DiskFolder<S> {
                 Ok(())
             }
             Err(error) => {
-                self.mark.knowledge.note(self.alloc, &Doing::SyncFailed(to));
-                self.mark
-                    .knowledge
-                    .note(self.alloc, &Doing::SyncFailed(from));
+                self.mark.knowledge.doubt_move(self.alloc, from, to);
                 Err(error)
             }
         }
@@ -252,12 +249,8 @@ impl<S: SystemFiles> DiskFolder<S> {
                 self.mark.knowledge.note(self.alloc, &Doing::Removed(name));
                 Ok(())
             }
-            Err(error) => {
-                self.mark
-                    .knowledge
-                    .note(self.alloc, &Doing::SyncFailed(name));
-                Err(error)
-            }
+            // The file is there as it was, or gone.
+            Err(error) => Err(error),
         }
     }
 

@@ -25,8 +25,8 @@ use Rattle.store_files.proofs.KnowledgeLemmas.{equal, unequal, decided}
 use Rattle.store_files.proofs.DiskLemmas.{read_at, creates, appends}
 use Rattle.store_files.proofs.StepLemmas.{renames, removes}
 use Rattle.system_model.specs.Made.{empty}
-use Rattle.system_model.specs.System.{MemDisk, Holds, number_in, can_be_made, are_made, changes_in, made_by, change_of}
-use Rattle.system_model.specs.Sound.{both}
+use Rattle.system_model.specs.System.{MemDisk, Holds, number_in, can_be_made, are_made, syncs_of, changes_in, made_by, change_of}
+use Rattle.system_model.specs.Sound.{both, synced_or_not}
 use Rattle.system_model.specs.declared.content.Step.{Step}
 use Rattle.system_model.specs.declared.content.NamedFile.{NamedFile}
 use Rattle.system_model.specs.declared.content.Content.{Content}
@@ -51,16 +51,23 @@ one_path d e n m path at also = one_split d e n m at.is_name.one also.is_name.on
 -- ---- the changes of the folder
 
 pub here : (s : MemDisk) (d : List ℕ) → are_made s.changes ≡ true → s.folder ≡ d → changes_in s d ≡ s.changes
-here s d made at = let is = equal s.folder d at in ap (λ (b : Bool). if b then (if are_made s.changes then s.changes else []) else []) is ∙ ap (λ (b : Bool). if b then s.changes else []) made
+here s d made at =
+    let is = equal s.folder d at in
+    ap (λ (b : Bool). if b then (if are_made s.changes then s.changes else []) else syncs_of s.others d) is ∙ ap (λ (b : Bool). if b then s.changes else []) made
 
 pub one_more : (old new : MemDisk) (d : List ℕ) (change : Change) → are_made old.changes ≡ true → are_made new.changes ≡ true → new.folder ≡ old.folder → old.folder ≡ d
     → new.changes ≡ change ∷ old.changes → changes_in new d ≡ change ∷ changes_in old d
 one_more old new d change was now same at more = here new d now (same ∙ at) ∙ more ∙ ap (λ (cs : List Change). change ∷ cs) (sym (here old d was at))
 
-pub none_more : (old new : MemDisk) (d : List ℕ) → new.folder ≡ old.folder → new.changes ≡ old.changes → changes_in new d ≡ changes_in old d
-none_more old new d same none =
-    ap (λ (f : List ℕ). if pointwise nat_eq f d then (if are_made new.changes then new.changes else []) else []) same
-    ∙ ap (λ (cs : List Change). if pointwise nat_eq old.folder d then (if are_made cs then cs else []) else []) none
+pub none_more : (old new : MemDisk) (d : List ℕ) → new.folder ≡ old.folder → new.changes ≡ old.changes → new.others ≡ old.others → changes_in new d ≡ changes_in old d
+none_more old new d same none also =
+    ap (λ (f : List ℕ). if pointwise nat_eq f d then (if are_made new.changes then new.changes else []) else syncs_of new.others d) same
+    ∙ ap (λ (cs : List Change). if pointwise nat_eq old.folder d then (if are_made cs then cs else []) else syncs_of new.others d) none
+    ∙ ap (λ (paths : List (List ℕ)). if pointwise nat_eq old.folder d then (if are_made old.changes then old.changes else []) else syncs_of paths d) also
+
+-- of another folder
+elsewhere : (s : MemDisk) (d : List ℕ) → s.folder ≢ d → changes_in s d ≡ syncs_of s.others d
+elsewhere s d ne = ap (λ (b : Bool). if b then (if are_made s.changes then s.changes else []) else syncs_of s.others d) (unequal s.folder d ne)
 
 pub pushed : (steps : List Step) (step : Step) → made_by (steps ++ step ∷ []) ≡ change_of step ∷ made_by steps
 pushed steps step = ap (λ (cs : List Change). reverse cs) (map-append change_of steps (step ∷ [])) ∙ reverse-append (map change_of steps) (change_of step ∷ [])
@@ -209,30 +216,42 @@ ok_more old new change d same at more made =
     let before = both (can_be_made change (replay old.changes empty)) (are_made old.changes) (subst (λ (cs : List Change). are_made cs ≡ true) more made) in
     one_more old new d change before.1 made same at more
 
-pub adds_one : {T E : Type 0} (r : Result T E) (old new : MemDisk) (change : Change) (d : List ℕ) → new.folder ≡ old.folder → old.folder ≡ d → OnOk r (new.changes ≡ change ∷ old.changes)
-    → OnErr r (new.changes ≡ old.changes) → OnOk r (are_made new.changes ≡ true) → Adds (is_ok r) change (changes_in old d) (changes_in new d)
-adds_one (Ok x) old new change d same at more none made = ok_more old new change d same at more made
-adds_one (Err e) old new change d same at more none made = inl (none_more old new d same none)
+pub adds_one : {T E : Type 0} (r : Result T E) (old new : MemDisk) (change : Change) (d : List ℕ) → new.folder ≡ old.folder → new.others ≡ old.others → old.folder ≡ d
+    → OnOk r (new.changes ≡ change ∷ old.changes) → OnErr r (new.changes ≡ old.changes) → OnOk r (are_made new.changes ≡ true) → Adds (is_ok r) change (changes_in old d) (changes_in new d)
+adds_one (Ok x) old new change d same also at more none made = ok_more old new change d same at more made
+adds_one (Err e) old new change d same also at more none made = inl (none_more old new d same none also)
 
-pub syncs_one : {T E : Type 0} (r : Result T E) (old new : MemDisk) (f : ℕ) (d : List ℕ) → new.folder ≡ old.folder → old.folder ≡ d → OnOk r (new.changes ≡ FileSynced f ∷ old.changes)
-    → OnErr r (new.changes ≡ old.changes) → OnOk r (are_made new.changes ≡ true) → Syncs (is_ok r) f (changes_in old d) (changes_in new d)
-syncs_one (Ok x) old new f d same at more none made = ok_more old new (FileSynced f) d same at more made
-syncs_one (Err e) old new f d same at more none made = inl (none_more old new d same none)
+pub syncs_one : {T E : Type 0} (r : Result T E) (old new : MemDisk) (f : ℕ) (d : List ℕ) → new.folder ≡ old.folder → new.others ≡ old.others → old.folder ≡ d
+    → OnOk r (new.changes ≡ FileSynced f ∷ old.changes) → OnErr r (new.changes ≡ old.changes) → OnOk r (are_made new.changes ≡ true) → Syncs (is_ok r) f (changes_in old d) (changes_in new d)
+syncs_one (Ok x) old new f d same also at more none made = ok_more old new (FileSynced f) d same at more made
+syncs_one (Err e) old new f d same also at more none made = inl (none_more old new d same none also)
 
-pub writes_one : {T E : Type 0} (r : Result T E) (old new : MemDisk) (f : ℕ) (bytes d : List ℕ) → new.folder ≡ old.folder → old.folder ≡ d
+pub writes_one : {T E : Type 0} (r : Result T E) (old new : MemDisk) (f : ℕ) (bytes d : List ℕ) → new.folder ≡ old.folder → new.others ≡ old.others → old.folder ≡ d
     → OnOk r (new.changes ≡ Appended f bytes ∷ old.changes) → OnErr r (new.changes ≡ old.changes) → OnOk r (are_made new.changes ≡ true)
     → Writes (is_ok r) f bytes (changes_in old d) (changes_in new d)
-writes_one (Ok x) old new f bytes d same at more none made = ok_more old new (Appended f bytes) d same at more made
-writes_one (Err e) old new f bytes d same at more none made = inl (none_more old new d same none)
+writes_one (Ok x) old new f bytes d same also at more none made = ok_more old new (Appended f bytes) d same at more made
+writes_one (Err e) old new f bytes d same also at more none made = inl (none_more old new d same none also)
 
 -- ---- what is claimed of a folder in which nothing is
 
-pub knows_empty : (known : List ℕ → Standing) (entries : Bool) → Knows known entries empty
-knows_empty known entries = record {
-  trusted = λ n ne f at. tt;
-  synced = λ n bytes is holds. let no : ⊥ = holds.2 in absurd no;
-  all_entries = λ all n. tt;
+no_files : (paths : List (List ℕ)) (d n : List ℕ) → (replay (syncs_of paths d) empty).file_of n ≡ None
+no_files [] d n = refl
+no_files (path ∷ paths) d n =
+    synced_or_not (λ (cs : List Change). (replay cs empty).file_of n ≡ None) (pointwise nat_eq path d) (syncs_of paths d) (no_files paths d n) (no_files paths d n)
+
+all_kept : (paths : List (List ℕ)) (d n : List ℕ) → (replay (syncs_of paths d) empty).kept n
+all_kept [] d n = tt
+all_kept (path ∷ paths) d n = synced_or_not (λ (cs : List Change). (replay cs empty).kept n) (pointwise nat_eq path d) (syncs_of paths d) (all_kept paths d n) tt
+
+knows_synced : (known : List ℕ → Standing) (entries : Bool) (paths : List (List ℕ)) (d : List ℕ) → Knows known entries (replay (syncs_of paths d) empty)
+knows_synced known entries paths d = record {
+  trusted = λ n ne f at. let none = no_files paths d n in let no : ⊥ = cc in absurd no;
+  synced = λ n bytes is holds. let none = no_files paths d n in let at = holds.1 in let no : ⊥ = cc in absurd no;
+  all_entries = λ all n. all_kept paths d n;
 }
+
+pub knows_empty : (known : List ℕ → Standing) (entries : Bool) → Knows known entries empty
+knows_empty known entries = knows_synced known entries [] []
 
 pub keeps : (old new : MemDisk) → new.mark ≡ old.mark
     → KeepsMarks (λ (s : MemDisk) (d : List ℕ). claims_of s.mark) (λ (s : MemDisk) (d : List ℕ). AreSo (claims_of s.mark) (replay (changes_in s d) empty)) changes_in (λ _. empty) old new
@@ -269,11 +288,10 @@ copy_claims mark copy kind names = λ i. record {
   entries = ap claims_entries (sym kind) i;
 }
 
--- a mark of which what it claims is so of the folder, also of each other, which is empty
+-- a mark of which what it claims is so of the folder, also of each other, in which there is nothing
 pub so_of_each : (s : MemDisk) (mark : Mark) (d : List ℕ) → AreSo (claims_of mark) (replay (changes_in s s.folder) empty) → AreSo (claims_of mark) (replay (changes_in s d) empty)
 so_of_each s mark d so = elim (decided s.folder d) [
   | inl e ↦ subst (λ (p : List ℕ). AreSo (claims_of mark) (replay (changes_in s p) empty)) e so
   | inr ne ↦
-      let none : changes_in s d ≡ [] = ap (λ (b : Bool). if b then (if are_made s.changes then s.changes else []) else []) (unequal s.folder d ne) in
-      subst (λ (made : List Change). AreSo (claims_of mark) (replay made empty)) (sym none) (knows_empty (claimed mark) (claims_entries mark.kind))
+      subst (λ (made : List Change). AreSo (claims_of mark) (replay made empty)) (sym (elsewhere s d ne)) (knows_synced (claimed mark) (claims_entries mark.kind) s.others d)
 ]

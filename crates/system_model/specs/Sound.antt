@@ -7,7 +7,7 @@ use Rattle.store_files.specs.Disk.{replay, IsPossible, IsSound}
 use Rattle.store_files.proofs.KnowledgeLemmas.{equal}
 use Rattle.system_model.specs.Made.{empty, AreMade}
 use Rattle.system_model.specs.Lists.{possible}
-use Rattle.system_model.specs.System.{MemDisk, can_be_made, are_made, changes_in}
+use Rattle.system_model.specs.System.{MemDisk, can_be_made, are_made, syncs_of, changes_in}
 
 pub both : (a b : Bool) → (a && b) ≡ true → (a ≡ true) × (b ≡ true)
 both true b e = (refl, e)
@@ -37,10 +37,19 @@ made_so (FolderSynced ∷ earlier) e = made_so earlier e
 pub stands_possible : (changes : List Change) → are_made changes ≡ true → IsPossible (replay changes empty)
 stands_possible changes e = (possible changes (made_so changes e)).possible refl
 
+-- a folder of which only syncs were made
+pub synced_or_not : (P : List Change → Type 0) (b : Bool) (cs : List Change) → P cs → P (FolderSynced ∷ cs) → P (if b then FolderSynced ∷ cs else cs)
+synced_or_not P true cs without with_it = with_it
+synced_or_not P false cs without with_it = without
+
+syncs_made : (paths : List (List ℕ)) (d : List ℕ) → AreMade (syncs_of paths d)
+syncs_made [] d = tt
+syncs_made (path ∷ paths) d = synced_or_not AreMade (pointwise nat_eq path d) (syncs_of paths d) (syncs_made paths d) (syncs_made paths d)
+
 pub changes_are_sound : (s : MemDisk) (d : List ℕ) → IsSound true (replay (changes_in s d) empty)
 changes_are_sound s d = of_folder (pointwise nat_eq s.folder d) (are_made s.changes) refl
   where
-    of_folder : (here made : Bool) → made ≡ are_made s.changes → IsSound true (replay (if here then (if made then s.changes else []) else []) empty)
+    of_folder : (here made : Bool) → made ≡ are_made s.changes → IsSound true (replay (if here then (if made then s.changes else []) else syncs_of s.others d) empty)
     of_folder true true e = possible s.changes (made_so s.changes (sym e))
     of_folder true false e = possible [] tt
-    of_folder false made e = possible [] tt
+    of_folder false made e = possible (syncs_of s.others d) (syncs_made s.others d)

@@ -1,5 +1,6 @@
--- A system in memory that has one folder.
-use Rattle.std.specs.Prelude.{◌≡◌, ℕ, ◌&&◌, not, Bool, true, false, List, [], ◌∷◌, Option, None, is_some, map, reverse, if◌then◌else◌, nat_eq, string_bytes}
+-- A system in memory that has the files of one folder.
+use Rattle.std.specs.Prelude.{◌≡◌, ℕ, ◌&&◌, not, Bool, true, false, List, [], ◌∷◌, Option, None, is_some, map, reverse, if◌then◌else◌, nat_eq, string_bytes, String}
+use Rattle.std.specs.declared.alloc.Global.{Global}
 use lib.Pointwise.{pointwise}
 use Rattle.store_files.specs.Disk.{Change, Created, Appended, Cut, FileSynced, SyncFailed, Moved, Removed, FolderSynced, Disk, replay, seen}
 use Rattle.store_folder.specs.Changes.{look_of}
@@ -10,10 +11,12 @@ use Rattle.system_model.specs.declared.content.Content.{Content}
 use Rattle.system_model.specs.declared.content.Step.{Step}
 use Rattle.system_model.specs.declared.content.Step.TheVariants as step
 
--- the path of its folder, the changes that were made in it, the last of them first, and its mark
+-- the path of its folder, the changes that were made in it, which other folders were synced, and its mark; of changes and
+-- syncs the last is the first
 pub record MemDisk : Type 0 where
   pub folder : List ℕ
   pub changes : List Change
+  pub others : List (List ℕ)
   pub mark : Mark
 
 -- whether this change can be made next
@@ -31,9 +34,14 @@ abbrev pub are_made : List Change → Bool
 are_made [] = true
 are_made (change ∷ earlier) = can_be_made change (replay earlier empty) && are_made earlier
 
+-- the syncs of another folder
+abbrev pub syncs_of : List (List ℕ) → List ℕ → List Change
+syncs_of [] d = []
+syncs_of (path ∷ paths) d = if pointwise nat_eq path d then FolderSynced ∷ syncs_of paths d else syncs_of paths d
+
 -- the changes that were made in the folder of a path
 abbrev pub changes_in : MemDisk → List ℕ → List Change
-changes_in s d = if pointwise nat_eq s.folder d then (if are_made s.changes then s.changes else []) else []
+changes_in s d = if pointwise nat_eq s.folder d then (if are_made s.changes then s.changes else []) else syncs_of s.others d
 
 abbrev pub change_of : Step → Change
 change_of (step.Created name) = Created (string_bytes name)
@@ -45,6 +53,9 @@ change_of step.FolderSynced = FolderSynced
 
 abbrev pub made_by : List Step → List Change
 made_by steps = reverse (map change_of steps)
+
+abbrev pub synced_by : List (String Global) → List (List ℕ)
+synced_by paths = reverse (map string_bytes paths)
 
 -- the number of the file of a name, of which the last entry counts
 abbrev pub number_in : List NamedFile → List ℕ → Option ℕ → Option ℕ

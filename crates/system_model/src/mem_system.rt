@@ -20,31 +20,34 @@ use store_files::mark::Mark;
 use store_files::{FileKind, FoundFile, FoundMark, SystemFiles};
 use store_folder::ReadableFolder;
 
-/// A system in memory that has one folder. What a crash may leave of it is what the model allows at worst. A call fails
-/// for lack of memory, and then each later call does.
+/// A system in memory that has the files of one folder; other folders can be synced. What a crash may leave of it is
+/// what the model allows at worst. A call fails for lack of memory, and then each later call on a file does.
 #[derive(Drop)]
 pub struct MemSystem {
     alloc: Global,
     folder: String,
     content: Content,
     steps: Vec<Step>,
+    // The other folders that were synced.
+    others: Vec<String>,
     is_broken: bool,
     is_locked: Cell<bool>,
     mark: Mark,
 }
 
-/// Clauses see the folder, the changes that were made in it, and its mark.
+/// Clauses see the folder, the changes that were made in it, the syncs of others, and its mark.
 impl Model for MemSystem {
     ghost use Rattle.std.specs.Prelude.{◌≡◌, true, false, string_bytes};
     ghost use Rattle.store_files.specs.Disk.{replay};
     ghost use Rattle.system_model.specs.Made.{empty};
-    ghost use Rattle.system_model.specs.System.{MemDisk, Holds, are_made, made_by};
+    ghost use Rattle.system_model.specs.System.{MemDisk, Holds, are_made, made_by, synced_by};
 
     ghost Value = { MemDisk };
 
     ghost view = { λ s. record {
       folder = string_bytes s.folder;
       changes = made_by s.steps.items;
+      others = synced_by s.others.items;
       mark = s.mark;
     } };
 
@@ -104,6 +107,7 @@ impl MemSystem {
             folder: String::from_str(alloc, folder)?,
             content: Content::new(alloc),
             steps: Vec::new(alloc),
+            others: Vec::new(alloc),
             is_broken: false,
             is_locked: Cell::new(false),
             mark: Mark::blank(alloc),
@@ -132,6 +136,7 @@ impl MemSystem {
         ensures possible { OnOk result (are_made self.new.changes ≡ true) }
         ensures kept { OnErr result (self.new.changes ≡ self.old.changes) }
         ensures folder { self.new.folder ≡ self.old.folder }
+        ensures others { self.new.others ≡ self.old.others }
         ensures mark { self.new.mark ≡ self.old.mark }
     {
         check(self.is_broken)?;
@@ -139,6 +144,18 @@ impl MemSystem {
         self.content.apply(self.alloc, &step)?;
         self.steps.push(step)?;
         self.is_broken = false;
+        Ok(())
+    }
+
+    // Notes the sync of another folder.
+    fn sync_other(&mut self, path: &str) -> io::Result<()>
+        ensures synced { OnOk result (self.new.others ≡ path.now ∷ self.old.others) }
+        ensures kept { OnErr result (self.new ≡ self.old) }
+        ensures folder { self.new.folder ≡ self.old.folder }
+        ensures changes { self.new.changes ≡ self.old.changes }
+        ensures mark { self.new.mark ≡ self.old.mark }
+    {
+        self.others.push(String::from_str(self.alloc, path)?)?;
         Ok(())
     }
 
@@ -331,10 +348,10 @@ impl SystemFiles for MemSystem {
     }
 
     fn sync_folder(&mut self, folder: &MemSystemFile) -> io::Result<()> {
-        if folder.path.as_str() != self.folder.as_str() {
-            return Err(ErrorKind::NotFound.into());
+        match folder.path.as_str() == self.folder.as_str() {
+            true => self.make(Step::FolderSynced),
+            false => self.sync_other(folder.path.as_str()),
         }
-        self.make(Step::FolderSynced)
     }
 
     fn open_lock(&self, path: &str) -> io::Result<MemSystemFile> {

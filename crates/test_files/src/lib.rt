@@ -1,17 +1,20 @@
-//! Are outputs, folders and files kept by the system? The tests make folders of their own, and remove them.
+//! Are outputs and files on disk kept by the system, and do marks say what is so? Are files published, listed and read
+//! in folders in memory? The tests on disk make folders of their own, and remove them.
 #![tactic(auto)]
 
 #[cfg(test)]
-mod disk_folder;
-#[cfg(test)]
-mod failing_system;
-#[cfg(test)]
 mod folder;
+#[cfg(test)]
+mod listing;
 #[cfg(test)]
 mod marks;
 #[cfg(test)]
 mod outputs;
 #[cfg(test)]
-mod published;
+mod outputs_in_memory;
+#[cfg(test)]
+mod publishing;
 #[cfg(test)]
 mod reading;
+#[cfg(test)]
+mod system;

@@ -1,8 +1,6 @@
 //! What the mark in a folder's file `lock` tells the next writer, and what one tells that is not of this folder.
 
-use crate::failing_system::FailingSystem;
 use crate::folder::{make, remove};
-use std::cell::Cell;
 use std::fs;
 use std::test::Fail;
 use store_files::{DiskFolder, HostFiles};
@@ -158,39 +156,5 @@ fn a_file_beside_that_was_left_over_is_not_trusted_by_its_new_name(
     let is_known_now = standing(&folder, "b") == Known::Nothing;
     drop(folder);
     assert!(rt; is_known_now && is_known(&rt, path, Known::Synced, Known::Nothing, false)?);
-    Ok(remove(&rt, path)?)
-}
-
-// Writes the file `b`, of which the first sync fails and the second doesn't. Returns the mark that is left then.
-fn fail_sync(
-    rt: &HostRuntime,
-    path: &str,
-    calls: &Cell<u32>,
-    failing_call: u32,
-) -> Result<Vec<u8>, Fail> {
-    let files = FailingSystem::new(rt, calls, failing_call)?;
-    let folder = DiskFolder::open(rt.alloc(), files, path)?;
-    let mut folder = Box::new(rt.alloc(), folder)?;
-    folder.create("b")?;
-    folder.append("b", b"lost")?;
-    let has_failed = folder.sync_file("b").is_err() && folder.sync_file("b").is_ok();
-    let left = mark(rt, path)?;
-    if has_failed && !folder.is_trusted("b") {
-        return Ok(left);
-    }
-    Ok(Vec::new(rt.alloc()))
-}
-
-// The calls are: open the folder, open and lock its lock, find its mark; write the mark, and make the file; open and
-// write it; sync it.
-#[test]
-fn a_sync_that_failed_is_known_to_each_later_writer(rt: HostRuntime) -> Result<(), Fail> {
-    let path = "test_files_unsynced";
-    begin(&rt, path)?;
-    let left = fail_sync(&rt, path, &Cell::new(0), 9)?;
-    assert!(rt; !left.is_empty() && is_known(&rt, path, Known::Synced, Known::Nothing, false)?);
-    // Also if it is killed right after the sync.
-    set_mark(&rt, path, &left)?;
-    assert!(rt; is_known(&rt, path, Known::Synced, Known::Nothing, false)?);
     Ok(remove(&rt, path)?)
 }

@@ -2,7 +2,7 @@
 //! appended to, and at each call of that the power may be cut.
 
 use crate::dice::Dice;
-use crate::torn_logs::{Log, crashed, first_of, has_from, opened};
+use crate::torn_logs::{Log, appended, crashed, first_of, has_from, opened};
 use segmented_log::{Call, Commit, SegmentedLog, call_all};
 use std::alloc::{AllocError, Global};
 use std::ops::Range;
@@ -134,11 +134,8 @@ impl Written {
         }
         let folder = log.into_folder();
         let there = folder.events().len();
-        let mut log = opened(self.alloc, folder)?;
-        log.append(b"after")?;
-        log.sync()?;
+        let folder = appended(self.alloc, folder, b"after")?;
         self.records.push(b"after".to_vec(self.alloc)?)?;
-        let folder = log.into_folder();
         let end = folder.events().len();
         let all = self.records.len();
         Ok(

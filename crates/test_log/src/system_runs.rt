@@ -7,6 +7,7 @@ use segmented_log::{Call, Commit, SegmentedLog, call_all};
 use std::alloc::{AllocError, Global};
 use std::test::Fail;
 use store_files::DiskFolder;
+use store_folder::ReadableFolder;
 use system_model::{MemSystem, Step};
 use torn_folder::Event;
 
@@ -133,13 +134,23 @@ impl Written {
     }
 }
 
-// The log of a process that makes these calls.
-fn write_log(alloc: Global, calls: &[Call], commit: Commit) -> Result<Written, Fail> {
-    let folder = DiskFolder::open(alloc, MemSystem::new(alloc, "f")?, "f")?;
+// A folder after these calls on its log.
+fn folder_after<F: ReadableFolder>(
+    alloc: Global,
+    folder: F,
+    calls: &[Call],
+    commit: Commit,
+) -> Result<F, Fail> {
     let log = SegmentedLog::open(alloc, folder, SEAL_SIZE, commit);
     let mut log = Box::new(alloc, log.map_err(|refusal| refusal.0)?)?;
     call_all(&mut *log, calls)?;
-    let folder = Box::into_inner(log).into_folder();
+    Ok(Box::into_inner(log).into_folder())
+}
+
+// The log of a process that makes these calls.
+fn write_log(alloc: Global, calls: &[Call], commit: Commit) -> Result<Written, Fail> {
+    let folder = DiskFolder::open(alloc, MemSystem::new(alloc, "f")?, "f")?;
+    let folder = Box::new(alloc, folder_after(alloc, folder, calls, commit)?)?;
     let mut written = Written {
         records: Vec::new(alloc),
         acknowledged: 0,

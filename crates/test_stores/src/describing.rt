@@ -1,12 +1,12 @@
 //! What a writer and a cache say about themselves, and which blocks an iteration looks up.
 
+use crate::making::{opened_bytes, written};
 use docstore::{
     AliveBitSet, BlockCompressor, CacheStats, Compressor, MemSink, StoreError, StoreWriter,
 };
 use std::alloc::Global;
 use std::process::Abort;
 use std::test::Fail;
-use test_support::making::{opened_bytes, written};
 
 #[test]
 fn a_writer_describes_itself(rt: HostRuntime) -> Result<(), Fail> {

@@ -1,5 +1,6 @@
 //! Whole lists of calls, and the functions of the main theorem.
 
+use crate::making::{opened_bytes, opened_with_cache, written};
 use docstore::{
     AliveBitSet, Answer, BlockCompressor, Compressor, Field, MemFile, MemSink, ReadCall,
     RecordDocument, Schema, StoreCommand, StoreError, answer_all, write_store,
@@ -11,7 +12,6 @@ use main_theorem::{
 use std::alloc::Global;
 use std::process::Abort;
 use std::test::Fail;
-use test_support::making::{opened_bytes, opened_with_cache, written};
 
 type Commands = Vec<StoreCommand<RecordDocument, MemFile>>;
 

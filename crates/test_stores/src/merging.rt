@@ -1,11 +1,11 @@
 //! Stores merged without their deleted documents.
 
+use crate::making::{is_found, opened_bytes, written};
+use crate::merge_inputs::{Source, inputs, six_blocks};
 use docstore::{Compressor, MemFile, MemSink, StoreError, StoreReader, StoreWriter};
 use std::alloc::Global;
 use std::test::Fail;
 use store_merge::merge;
-use test_support::making::{is_found, opened_bytes, written};
-use test_support::merge_inputs::{Source, inputs, six_blocks};
 
 // The file of a merge of these stores.
 fn merged(alloc: Global, sources: &[Source<'_>]) -> Result<Vec<u8>, StoreError> {

@@ -1,9 +1,9 @@
 //! Stores in slices of bytes, and records that are read.
 
+use crate::making::{opened_bytes, written};
 use docstore::{MemFile, RecordDocument, Row, StoreError, StoreReader, StoreSlice};
 use std::alloc::Global;
 use std::test::Fail;
-use test_support::making::{opened_bytes, written};
 
 // Whether an iteration gives these documents.
 fn gives(store: &StoreSlice<'_>, documents: &[&[u8]]) -> Result<bool, StoreError> {

@@ -7,9 +7,10 @@ use Rattle.program_logs.proofs.cat.print.Goals as goal
 pub returns-clause-printed : goal.returns-clause-printed
 returns-clause-printed g c honest first all at =
     let out = g.W.Write.contents in
-    let folder = c.in_ok-read.read.folder in
-    let here : IsLog first all (seen (replay (g.S.SystemFiles.changes folder.system.value folder.path) (g.S.SystemFiles.start folder.path))) =
-    rw (c.in_ok-read.ensures.system, c.in_ok-read.ensures.path) at in
+    let folder = c.deref_mut-read.result.now.folder in
+    let system : folder.system.value ≡ c.args.logs.now.value = search rules in
+    let path : folder.path ≡ c.args.path.now = search rules in
+    let here : IsLog first all (seen (replay (g.S.SystemFiles.changes folder.system.value folder.path) (g.S.SystemFiles.start folder.path))) = rw (system, path) at in
     let end_is : c.end.result ≡ first + length all = c.end.ensures.end honest first all here in
     let start_is : c.max-from.result ≡ max c.args.from (first + length all - c.args.most) = search rules in
     subst (λ from. OnOk c.print_from.result (PrintsFrom c.args.form first all from (out c.args.output.now) (out c.print_from.new.output))) start_is
@@ -17,9 +18,10 @@ returns-clause-printed g c honest first all at =
 
 pub returns-clause-next : goal.returns-clause-next
 returns-clause-next g c honest first all at =
-    let folder = c.in_ok-read.read.folder in
-    let here : IsLog first all (seen (replay (g.S.SystemFiles.changes folder.system.value folder.path) (g.S.SystemFiles.start folder.path))) =
-    rw (c.in_ok-read.ensures.system, c.in_ok-read.ensures.path) at in
+    let folder = c.deref_mut-read.result.now.folder in
+    let system : folder.system.value ≡ c.args.logs.now.value = search rules in
+    let path : folder.path ≡ c.args.path.now = search rules in
+    let here : IsLog first all (seen (replay (g.S.SystemFiles.changes folder.system.value folder.path) (g.S.SystemFiles.start folder.path))) = rw (system, path) at in
     let end_is : c.end.result ≡ first + length all = c.end.ensures.end honest first all here in
     let start_is : c.max-from.result ≡ max c.args.from (first + length all - c.args.most) = search rules in
     subst (λ from. IfOk c.print_from.result (λ next. next ≡ max from (first + length all))) start_is (c.print_from.ensures.next honest first all here)

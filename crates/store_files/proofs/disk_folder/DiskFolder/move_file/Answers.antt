@@ -6,7 +6,7 @@ use Rattle.store_files.specs.Steps.{Renames}
 use Rattle.store_files.specs.Knowledge.{said}
 use Rattle.store_files.specs.Opened.{IsTracked}
 use Rattle.store_files.proofs.StepLemmas.{renames}
-use Rattle.store_files.proofs.KnownLemmas.{ready, doubted, moved_over, move_failed, fail_both, renamed_tracked, none_open, not_read, as_equal}
+use Rattle.store_files.proofs.KnownLemmas.{ready, doubted, moved_over, moved_no_more, less_known, move_failed, renamed_tracked, none_open, not_read, as_equal}
 use Rattle.store_files.proofs.MarkedLemmas.{MayMove, moved_stays, still}
 use Rattle.store_files.proofs.disk_folder.DiskFolder.move_file.Goals as goal
 
@@ -22,7 +22,9 @@ invariant_of-self g c = λ h.
     let before = c.self-2.invariant h in
     let writable : not (is_some c.self-2.inside.mark.lock) ≡ false = search rules in
     let doubts = doubted _ (said c.doubt_entries.new.self) _ _ _ c.doubt_entries.ensures.files c.doubt_entries.ensures.entries before.0.knows in
-    let known = moved_over from to _ _ (said c.note.new.self) _ _ _ _ c.requires c.note.ensures.files.no_more c.note.ensures.entries doubts did in
+    let before_it = said c.doubt_entries.new.self in
+    let fewer = moved_no_more from to c.doubt_entries.new.self.others before_it (said c.note.new.self) c.note.ensures.files.no_more in
+    let known = moved_over from to _ before_it (said c.note.new.self) _ _ _ _ c.requires fewer c.note.ensures.entries doubts did in
     let tracked = subst (λ o. IfSome o (λ f. IsTracked (replay (g.S.SystemFiles.changes c.self-2.inside.system d) (g.S.SystemFiles.start d)) d (string_bytes f.name) (g.S.SystemFiles.opened_as f.file)
     (g.S.SystemFiles.number f.file))) (sym c.take-open_file.ensures.value) before.1 in
     let named : string_bytes c.in_ok-name.name ≡ to = search rules in (
@@ -47,15 +49,12 @@ invariant_of-self-in-Err g c = λ h.
     let to = c.args.to.now in
     let from_at : IsPath d from c.as_str-2.result.now = search rules in
     let to_at : IsPath d to c.as_str-3.result.now = search rules in
-    let did = renames from to false (g.S.SystemFiles.start d) (g.S.SystemFiles.changes c.self-2.inside.system d) (g.S.SystemFiles.changes c.rename.new.self d) c.requires
-    (c.in-Err.ensures.moved h d from to from_at to_at) in
     let before = c.self-2.invariant h in
     let writable : not (is_some c.self-2.inside.mark.lock) ≡ false = search rules in
     let doubts = doubted _ (said c.doubt_entries.new.self) _ _ _ c.doubt_entries.ensures.files c.doubt_entries.ensures.entries before.0.knows in
-    let none = c.note-in-Err-2.ensures.entries ∙ c.note-in-Err.ensures.entries ∙ c.doubt_entries.ensures.entries in
-    let fewer = fail_both from to (said c.doubt_entries.new.self) (said c.note-in-Err.new.self) (said c.note-in-Err-2.new.self) c.note-in-Err.ensures.files.no_more
-    c.note-in-Err-2.ensures.files.no_more in
-    let known = move_failed from to false _ (said c.note-in-Err-2.new.self) _ _ _ _ fewer none doubts did in (
+    let none = c.doubt_move.ensures.entries ∙ c.doubt_entries.ensures.entries in
+    let fewer = less_known _ (said c.doubt_move.new.self) _ _ _ c.doubt_move.ensures.files c.doubt_move.ensures.entries doubts in
+    let known = move_failed from to (said c.doubt_move.new.self) _ _ _ _ c.requires c.doubt_move.ensures.moved none fewer (c.in-Err.ensures.moved h d from to from_at to_at) in (
       ready _ _ _ _ d _ _ _ before.0 known,
       none_open
           (λ f. IsTracked (replay (g.S.SystemFiles.changes c.rename.new.self d) (g.S.SystemFiles.start d)) d (string_bytes f.name) (g.S.SystemFiles.opened_as f.file) (g.S.SystemFiles.number f.file))

@@ -1,4 +1,4 @@
-use Rattle.std.proofs.Common.{rules, ◌≡◌, ◌∙◌, true, false, subst, string_bytes, IsTrue}
+use Rattle.std.proofs.Common.{rules, ◌≡◌, true, false, subst, string_bytes, IsTrue}
 use Rattle.std.specs.Prelude.{is_some, not}
 use Rattle.store_files.specs.Disk.{replay}
 use Rattle.store_files.specs.Paths.{IsPath}
@@ -6,7 +6,7 @@ use Rattle.store_files.specs.Steps.{Removes}
 use Rattle.store_files.specs.Knowledge.{said}
 use Rattle.store_files.specs.Opened.{IsTracked}
 use Rattle.store_files.proofs.StepLemmas.{removes}
-use Rattle.store_files.proofs.KnownLemmas.{ready, doubted, removed, remove_failed, none_open, not_read}
+use Rattle.store_files.proofs.KnownLemmas.{ready, doubted, removed, forgotten_no_more, remove_failed, none_open, not_read}
 use Rattle.store_files.specs.Known.{AreSo}
 use Rattle.store_files.proofs.MarkedLemmas.{removed_stays, still}
 use Rattle.store_files.proofs.disk_folder.DiskFolder.remove_file.Goals as goal
@@ -20,7 +20,7 @@ invariant_of-self g c = λ h.
     let before = (c.self.invariant h).0 in
     let writable : not (is_some c.self.inside.mark.lock) ≡ false = search rules in
     let doubts = doubted _ (said c.doubt_entries.new.self) _ _ _ c.doubt_entries.ensures.files c.doubt_entries.ensures.entries before.knows in (
-      ready _ _ _ _ d _ _ _ before (removed name _ _ (said c.note.new.self) _ _ _ _ c.note.ensures.files.no_more c.note.ensures.entries doubts did),
+      ready _ _ _ _ d _ _ _ before (removed name _ _ (said c.note.new.self) _ _ _ _ (forgotten_no_more name _ _ _ c.note.ensures.files.no_more) c.note.ensures.entries doubts did),
       none_open
           (λ f. IsTracked (replay (g.S.SystemFiles.changes c.remove.new.self d) (g.S.SystemFiles.start d)) d (string_bytes f.name) (g.S.SystemFiles.opened_as f.file) (g.S.SystemFiles.number f.file))
           c.take-closed.new.self c.take-closed.ensures.after,
@@ -40,12 +40,11 @@ invariant_of-self-in-Err g c = λ h.
     let d = string_bytes c.self.inside.path in
     let name = c.args.name.now in
     let at : IsPath d name c.as_str.result.now = search rules in
-    let did = removes name false (g.S.SystemFiles.start d) (g.S.SystemFiles.changes c.self.inside.system d) (g.S.SystemFiles.changes c.remove.new.self d) (c.in-Err.ensures.removed h d name at) in
     let before = (c.self.invariant h).0 in
     let writable : not (is_some c.self.inside.mark.lock) ≡ false = search rules in
     let doubts = doubted _ (said c.doubt_entries.new.self) _ _ _ c.doubt_entries.ensures.files c.doubt_entries.ensures.entries before.knows in (
       ready _ _ _ _ d _ _ _ before
-          (remove_failed name false _ (said c.note-in-Err.new.self) _ _ _ _ c.note-in-Err.ensures.files.no_more (c.note-in-Err.ensures.entries ∙ c.doubt_entries.ensures.entries) doubts did),
+          (remove_failed name (said c.doubt_entries.new.self) _ _ _ _ c.doubt_entries.ensures.entries doubts (c.in-Err.ensures.removed h d name at)),
       none_open
           (λ f. IsTracked (replay (g.S.SystemFiles.changes c.remove.new.self d) (g.S.SystemFiles.start d)) d (string_bytes f.name) (g.S.SystemFiles.opened_as f.file) (g.S.SystemFiles.number f.file))
           c.take-closed.new.self c.take-closed.ensures.after,

@@ -13,7 +13,7 @@ returns-clause-made c = λ h d n at.
     let name = string_bytes c.in_ok-name.name in
     let same = one_path old.folder d name n c.args.path.now c.in_ok-name.ensures.name at in
     subst (λ (m : List ℕ). Adds (is_ok c.make.result) (Created m) (changes_in old d) (changes_in new d)) same.1
-    (adds_one c.make.result old new (Created name) d made.folder same.0 made.made made.kept made.possible)
+    (adds_one c.make.result old new (Created name) d made.folder made.others same.0 made.made made.kept made.possible)
 
 pub returns-clause-mark : goal.returns-clause-mark
 returns-clause-mark c = λ h. keeps c.args.self.now c.make.new.self c.make.ensures.mark

@@ -16,7 +16,7 @@ returns-clause-moved c = λ h d n m at also.
     let second = one_path old.folder d to m c.args.to.now c.in_ok-to.ensures.name also in
     subst (λ (k : List ℕ). Adds (is_ok c.make.result) (Moved k m) (changes_in old d) (changes_in new d)) first.1
     (subst (λ (k : List ℕ). Adds (is_ok c.make.result) (Moved from k) (changes_in old d) (changes_in new d)) second.1
-    (adds_one c.make.result old new (Moved from to) d made.folder first.0 made.made made.kept made.possible))
+    (adds_one c.make.result old new (Moved from to) d made.folder made.others first.0 made.made made.kept made.possible))
 
 pub returns-clause-mark : goal.returns-clause-mark
 returns-clause-mark c = λ h. keeps c.args.self.now c.make.new.self c.make.ensures.mark

@@ -12,7 +12,7 @@ returns-clause-synced c = λ h d inside.
     let path = string_bytes c.args.file.now.path in
     let mine : IsPath old.folder other path = search rules in
     let same = one_path old.folder d other inside.0 path mine inside.1 in
-    syncs_one c.make.result old c.make.new.self c.args.file.now.number d made.folder same.0 made.made made.kept made.possible
+    syncs_one c.make.result old c.make.new.self c.args.file.now.number d made.folder made.others same.0 made.made made.kept made.possible
 
 pub returns-clause-mark : goal.returns-clause-mark
 returns-clause-mark c = λ h. keeps c.args.self.now c.make.new.self c.make.ensures.mark

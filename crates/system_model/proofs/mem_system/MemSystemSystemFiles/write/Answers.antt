@@ -18,7 +18,7 @@ returns-clause-written c = λ h d inside.
     let same = one_path old.folder d other inside.0 path mine inside.1 in
     let bytes : c.in_ok-bytes.bytes.items ≡ c.args.bytes.now = search rules in
     subst (λ (bs : List ℕ). Writes (is_ok c.make.result) number bs (changes_in old d) (changes_in new d)) bytes
-    (writes_one c.make.result old new number c.in_ok-bytes.bytes.items d made.folder same.0 made.made made.kept made.possible)
+    (writes_one c.make.result old new number c.in_ok-bytes.bytes.items d made.folder made.others same.0 made.made made.kept made.possible)
 
 pub returns-clause-mark : goal.returns-clause-mark
 returns-clause-mark c = λ h. keeps c.args.self.now c.make.new.self c.make.ensures.mark

@@ -1,11 +1,11 @@
 //! Files that give their bytes while they are opened, and other bytes at each later read. The answers are those of the
 //! bytes that came.
 
+use crate::lying_file::LyingFile;
+use crate::making::{is_found, is_listed, opened, opened_with_cache, written};
 use docstore::{StoreError, StoreReader};
 use std::alloc::Global;
 use std::test::Fail;
-use test_support::LyingFile;
-use test_support::making::{is_found, is_listed, opened, opened_with_cache, written};
 
 // An open reads the footer and the index.
 const READS_OF_AN_OPEN: u64 = 2;

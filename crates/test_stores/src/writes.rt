@@ -1,10 +1,10 @@
 //! A document, a stacked store and another document, on an output whose writes and whose end fail in turn.
 
+use crate::failing_sink::FailingSink;
+use crate::making::{is_found, opened_bytes, written};
 use docstore::{Cause, Compressor, MemFile, StoreError, StoreReader, StoreWriter};
 use std::alloc::Global;
 use std::test::Fail;
-use test_support::FailingSink;
-use test_support::making::{is_found, opened_bytes, written};
 
 const FAILED: Result<(), StoreError> = Err(StoreError::Failed(Cause::Write));
 

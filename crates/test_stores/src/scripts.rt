@@ -1,11 +1,11 @@
 //! Scripts: the dump of a file, and streams that fail or give a byte at a time.
 
+use crate::making::written;
 use std::alloc::Global;
 use std::io;
 use std::io::{Read, Write};
 use std::test::Fail;
 use store_script::{ToolFault, dump, run};
-use test_support::making::written;
 
 const SCRIPT: &[u8] = b"new 16384\nput 616263\nclose\nget 0 0\nget 0 1";
 

@@ -1,12 +1,12 @@
 //! Merges that end in an error, of a read or of a write; and what was taken before.
 
+use crate::failing_sink::FailingSink;
+use crate::making::written;
+use crate::merge_inputs::{Source, inputs, six_blocks};
 use docstore::{Cause, Compressor, StoreError, StoreWriter};
 use std::alloc::Global;
 use std::test::Fail;
 use store_merge::{MergeError, merge, merge_in_parts};
-use test_support::FailingSink;
-use test_support::making::written;
-use test_support::merge_inputs::{Source, inputs, six_blocks};
 
 /// The error that a merge returns, if there is one, how many documents it took, and whether the writer has failed.
 type Taken = (Option<MergeError>, u32, bool);

@@ -2,12 +2,12 @@
 //! of a document without its block, and of the data for a stacking. Each call that fails is made again, with the right
 //! answer.
 
+use crate::failing_file::FailingFile;
+use crate::making::{is_found, listed, opened, opened_with_cache, written};
+use crate::merge_inputs::six_blocks;
 use docstore::{Compressor, FileSlice, MemSink, StoreError, StoreReader, StoreWriter};
 use std::alloc::Global;
 use std::test::Fail;
-use test_support::FailingFile;
-use test_support::making::{is_found, listed, opened, opened_with_cache, written};
-use test_support::merge_inputs::six_blocks;
 
 const DOCUMENTS: [&[u8]; 3] = [b"a", b"bc", b""];
 
