@@ -26,6 +26,23 @@ pub enum Step {
     FolderSynced,
 }
 
+impl Step {
+    // The same change.
+    pub(crate) fn copy(&self, alloc: Global) -> Result<Step, AllocError>
+        ensures { IfOk result (λ step. change_of step ≡ change_of self.now) }
+    {
+        let copy = |name: &String| String::from_str(alloc, name.as_str());
+        Ok(match self {
+            Step::Created(name) => Step::Created(copy(name)?),
+            Step::Appended(number, bytes) => Step::Appended(*number, bytes.to_vec(alloc)?),
+            Step::FileSynced(number) => Step::FileSynced(*number),
+            Step::Moved(from, to) => Step::Moved(copy(from)?, copy(to)?),
+            Step::Removed(name) => Step::Removed(copy(name)?),
+            Step::FolderSynced => Step::FolderSynced,
+        })
+    }
+}
+
 /// Which file has a name from here on, or that none has.
 #[derive(Drop)]
 pub struct NamedFile {

@@ -114,6 +114,18 @@ impl MemSystem {
         })
     }
 
+    /// The system as another process finds it: with the changes that were made, and all locks free.
+    pub fn again(&self) -> io::Result<MemSystem>
+        ensures folder { IfOk result (λ s. s.folder ≡ self.now.folder) }
+        ensures changes { IfOk result (λ s. s.changes ≡ self.now.changes) }
+    {
+        let mut system = MemSystem::new(self.alloc, self.folder.as_str())?;
+        for step in self.steps() {
+            system.make(step.copy(self.alloc)?)?;
+        }
+        Ok(system)
+    }
+
     /// The changes that were made, the first of them first.
     pub fn steps(&self) -> &[Step]
         ensures { made_by result.now ≡ self.now.changes }

@@ -4,6 +4,8 @@
 mod inputs;
 mod passing;
 #[cfg(test)]
+mod stores;
+#[cfg(test)]
 mod tests;
 
 pub use inputs::MemInputs;

@@ -1,22 +1,18 @@
 //! What comes out of what goes in, with bytes from outside.
 
 use crate::{MemInputs, passed};
-use document_framing::{DocumentForm, Framing};
+use document_framing::Framing;
 use framed_logs::SyncPolicy;
-use program_base::failure::{Failure, with_file};
-use program_base::output_path::OutputPath;
-use program_base::store_file::StorePath;
+use program_base::failure::Failure;
 use program_logs::append::{AppendOptions, append};
 use program_logs::logs::{Logs, TailOptions};
-use program_stores::get::print_named;
-use program_stores::pack::{PackingOptions, pack};
 use segmented_log::Commit;
 use std::test::Fail;
 use store_commands::StoreShape;
 use system_model::MemSystem;
 
-// The files of the tests.
-const FILES: &[(&str, &[u8])] = &[
+/// The files of the tests.
+pub(crate) const FILES: &[(&str, &[u8])] = &[
     ("lines", b"one\n\nthree is long"),
     ("none", b""),
     ("four", b"four\n"),
@@ -32,46 +28,6 @@ fn printed(rt: &HostRuntime, framing: Framing, paths: &[&str]) -> Option<Vec<u8>
         standard: b"read\nlast",
     };
     passed(rt, framing, StoreShape::new(16, 2)?, inputs, paths).ok()
-}
-
-// What `get` prints by these words of the lines of a file that was packed, each under its number.
-fn given(rt: &HostRuntime, shape: StoreShape, words: &[&str]) -> Result<Vec<u8>, Failure> {
-    let alloc = rt.alloc();
-    let (path, is_tantivy) = ("folder/a.store", false);
-    let inputs = MemInputs {
-        files: FILES,
-        standard: b"",
-    };
-    let output = OutputPath {
-        path,
-        replaces: false,
-    };
-    let options = PackingOptions {
-        framing: Framing::Lines,
-        expected: Some(3),
-        is_quiet: true,
-    };
-    let system = MemSystem::new(alloc, "folder")?;
-    let place = pack(rt, system, inputs, output, shape, &["lines"], options)?;
-    let mut out = Vec::new(alloc);
-    let store = StorePath { path, is_tantivy };
-    let form = DocumentForm::Numbered(Framing::Lines);
-    let printed = print_named(alloc, place.folder.system(), store, form, words, &mut out);
-    with_file(alloc, path, printed)?;
-    Ok(out)
-}
-
-// The same, in blocks of a few documents; nothing where that fails.
-fn given_or_none(rt: &HostRuntime, words: &[&str]) -> Option<Vec<u8>> {
-    given(rt, StoreShape::new(16, 2)?, words).ok()
-}
-
-#[test]
-fn words_name_documents_in_their_order(rt: HostRuntime) -> Result<(), Fail> {
-    let out = given_or_none(&rt, &["2", "..1", "0..2"]);
-    assert!(rt; out == Some(b"2\tthree is long\n0\tone\n0\tone\n1\t\n".to_vec(rt.alloc())?));
-    assert!(rt; given_or_none(&rt, &["2..4"]).is_none() && given_or_none(&rt, &["x"]).is_none());
-    Ok(())
 }
 
 #[test]

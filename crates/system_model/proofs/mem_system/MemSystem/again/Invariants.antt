@@ -1,0 +1,10 @@
+use Rattle.std.proofs.Common.{◌≡◌, take}
+use Rattle.system_model.specs.System.{made_by}
+use Rattle.system_model.proofs.mem_system.MemSystem.again.Given as goal
+
+abbrev pub invariant-loop-step : goal.invariant-loop-step
+invariant-loop-step l = record {
+  folder : l.system.folder ≡ l.self.folder;
+  made : l.system.changes ≡ made_by (take l.step-index l.step-items);
+  all : made_by l.step-items ≡ l.self.changes;
+}
