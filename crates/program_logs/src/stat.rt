@@ -54,15 +54,16 @@ fn segments_of(rt: &HostRuntime, path: &str) -> Result<(u64, u64), FailureCause>
     Ok((segments.len() as u64, bytes))
 }
 
-// Prints the numbers of a log, in lines or as JSON.
-fn print<S: SystemFiles>(
-    logs: &ReadLogs<'_, S>,
+// Prints the numbers of a log, in lines or as JSON: those of its records, from `first` to before `next`, and others.
+fn print_numbers(
+    rt: &HostRuntime,
     path: &str,
+    first: u64,
+    next: u64,
     is_json: bool,
 ) -> Result<(), FailureCause> {
-    let (first, next, end) = logs.bounds(path)?;
-    let (segments, segment_bytes) = segments_of(logs.rt, path)?;
-    let tail_bytes = tail_bytes(logs.rt, path)?.unwrap_or(0);
+    let (segments, segment_bytes) = segments_of(rt, path)?;
+    let tail_bytes = tail_bytes(rt, path)?.unwrap_or(0);
     let numbers = [
         ("records", "records", next.saturating_sub(first)),
         ("first number", "first", first),
@@ -71,7 +72,17 @@ fn print<S: SystemFiles>(
         ("segment bytes", "segment_bytes", segment_bytes),
         ("tail bytes", "tail_bytes", tail_bytes),
     ];
-    print_named(logs.rt, "folder", path, &numbers, is_json)?;
+    print_named(rt, "folder", path, &numbers, is_json)
+}
+
+// Prints the numbers of a log, and fails where its tail is damaged.
+fn print<S: SystemFiles>(
+    logs: &ReadLogs<'_, S>,
+    path: &str,
+    is_json: bool,
+) -> Result<(), FailureCause> {
+    let (first, next, end) = logs.bounds(path)?;
+    print_numbers(logs.rt, path, first, next, is_json)?;
     end
 }
 
