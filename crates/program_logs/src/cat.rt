@@ -98,11 +98,11 @@ pub fn print<S: SystemFiles, W: Write>(
     output: &mut W,
 ) -> Result<u64, FailureCause>
     ensures printed { IsTrue S.honest → (first : ℕ) (all : List Slot)
-        → IsLog first all (seen (replay (S.changes logs.now.value path.now) (S.start path.now)))
+        → IsLog first all (seen (replay (S.changes logs.now path.now) (S.start path.now)))
         → OnOk result (PrintsFrom form first all (max from (first + length all - most))
         (W.contents output.old) (W.contents output.new)) }
     ensures next { IsTrue S.honest → (first : ℕ) (all : List Slot)
-        → IsLog first all (seen (replay (S.changes logs.now.value path.now) (S.start path.now)))
+        → IsLog first all (seen (replay (S.changes logs.now path.now) (S.start path.now)))
         → IfOk result (λ next. next ≡ max (max from (first + length all - most)) (first + length all)) }
 {
     let mut read = logs.open_to_read(path)?;

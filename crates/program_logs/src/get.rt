@@ -119,7 +119,7 @@ pub fn print_named<S: SystemFiles, W: Write>(
     output: &mut W,
 ) -> Result<(), FailureCause>
     ensures printed { IsTrue S.honest → (first : ℕ) (all : List Slot)
-        → IsLog first all (seen (replay (S.changes logs.now.value path.now) (S.start path.now)))
+        → IsLog first all (seen (replay (S.changes logs.now path.now) (S.start path.now)))
         → OnOk result (PrintsNamed (IsRangeShown form first all) words.now
         (W.contents output.old) (W.contents output.new)) }
 {

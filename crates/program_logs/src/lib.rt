@@ -2,10 +2,10 @@
 #![tactic(auto)]
 
 pub mod append;
-mod cat;
+pub mod cat;
 mod compact;
 mod drop;
-mod get;
+pub mod get;
 mod log_refusal;
 pub mod logs;
 mod places;
@@ -21,12 +21,12 @@ ghost use Rattle.std.specs.Prelude.{◌≡◌, ℕ, List, [], IsTrue};
 use clap::{ArgMatches, Command};
 use document_framing::InputFiles;
 use logs::{Logs, ReadLogs};
+use places::check_parts;
 use program_base::arguments::{word, wrong_words};
 use program_base::command_words::{Argument, add};
 use program_base::failure::{Failure, FailureCause, with_file};
 use std::alloc::{AllocError, Global};
 use std::io::IsTerminal;
-use std::rc::Rc;
 use store_files::SystemFiles;
 
 /// The name of the argument for the folder.
@@ -96,6 +96,7 @@ fn read<S: SystemFiles>(
         _ => {}
     }
     let path = word(alloc, matches, FOLDER)?;
+    with_file(alloc, path, check_parts(logs.rt, path))?;
     let given = match name {
         "get" => get::run(logs, path, matches),
         "cat" => cat::run(logs, path, matches),
@@ -133,7 +134,7 @@ pub fn run<S: SystemFiles, I: InputFiles + Drop>(
         return Ok(());
     };
     if let "get" | "cat" | "stat" | "verify" = name {
-        return read(&Logs::new(rt, Rc::new(rt.alloc(), system)?), name, matches);
+        return read(&ReadLogs::new(rt, system)?, name, matches);
     }
     let (logs, path) = (Logs::new(rt, system), word(rt.alloc(), matches, FOLDER)?);
     match name {

@@ -7,12 +7,12 @@ ghost use Rattle.store_files.specs.Disk.{replay, seen};
 ghost use Rattle.store_format.specs.Block.{Slot};
 
 use crate::log_refusal::{refused, unread};
-use crate::places::{check_log, check_place, segment_numbers, tail_bytes};
+use crate::places::{check_log, check_place, tail_bytes};
 use framed_logs::ReadLog;
 use program_base::failure::FailureCause;
 use program_base::log_refusal::LogRefusal;
 use segmented_log::{Commit, SegmentedLog};
-use std::alloc::Global;
+use std::alloc::{AllocError, Global};
 use std::marker::Model;
 use std::rc::Rc;
 use std::{fs, io};
@@ -26,8 +26,12 @@ pub struct Logs<'a, S: SystemFiles> {
     system: S,
 }
 
-/// The logs in a system that only reads, so that any number of them can be open.
-pub type ReadLogs<'a, S> = Logs<'a, Rc<S, Global>>;
+/// The logs in a system that is only read, so that any number of them can be open. It may have been changed before.
+#[derive(Drop)]
+pub struct ReadLogs<'a, S: SystemFiles> {
+    pub rt: &'a HostRuntime,
+    system: Rc<S, Global>,
+}
 
 /// A log that is open to be written, in a box: a function that owns it moves and drops one value, and not all of its
 /// parts.
@@ -62,6 +66,17 @@ impl<'a, S: SystemFiles> Model for Logs<'a, S> {
     ghost view = { λ logs. logs.system };
 
     ghost invariant = { λ logs. IsTrue S.honest → (d : List ℕ) → S.changes logs.system d ≡ [] };
+}
+
+/// Clauses see the system.
+impl<'a, S: SystemFiles> Model for ReadLogs<'a, S> {
+    ghost use Rattle.std.specs.Prelude.{ℕ, List, IsTrue};
+
+    ghost Value = { S };
+
+    ghost view = { λ logs. logs.system.value };
+
+    ghost invariant = { λ logs. IsTrue S.honest → (d : List ℕ) → S.was_so logs.system.value d };
 }
 
 // Opens the log of a folder that a writer locked. A batch at the end of its tail that was not finished, which is cut
@@ -137,15 +152,22 @@ impl<'a, S: SystemFiles> Logs<'a, S> {
     }
 }
 
-impl<'a, S: SystemFiles> Logs<'a, Rc<S, Global>> {
+impl<'a, S: SystemFiles> ReadLogs<'a, S> {
+    /// Those in this system.
+    pub fn new(rt: &'a HostRuntime, system: S) -> Result<ReadLogs<'a, S>, AllocError>
+        requires so { IsTrue S.honest → (d : List ℕ) → S.was_so system d }
+        ensures system { IfOk result (λ logs. logs ≡ system) }
+    {
+        let system = Rc::new(rt.alloc(), system)?;
+        Ok(ReadLogs { rt, system })
+    }
+
     /// Opens a log that is there, to read it. Nothing is changed, and a writer may go on. Of a log whose tail is
     /// damaged it has the records before the damage.
     pub fn open_to_read(&self, path: &str) -> Result<OpenLog<S>, FailureCause>
-        ensures system { IfOk result (λ read. read.value.folder.system.value ≡ self.now.value) }
+        ensures system { IfOk result (λ read. read.value.folder.system.value ≡ self.now) }
         ensures path { IfOk result (λ read. read.value.folder.path ≡ path.now) }
     {
-        check_log(self.rt, path)?;
-        let _plain = segment_numbers(self.rt, path)?;
         let alloc = self.rt.alloc();
         let folder = DiskFolder::open_to_read(alloc, self.system.clone()?, path)?;
         let read = ReadLog::open(alloc, Box::new(alloc, folder)?).map_err(unread)?;
@@ -155,7 +177,7 @@ impl<'a, S: SystemFiles> Logs<'a, Rc<S, Global>> {
     /// The bounds of the log at a path, which is opened for them.
     pub(crate) fn bounds(&self, path: &str) -> Result<Bounds, FailureCause>
         ensures { IsTrue S.honest → (first : ℕ) (all : List Slot)
-            → IsLog first all (seen (replay (S.changes self.now.value path.now) (S.start path.now)))
+            → IsLog first all (seen (replay (S.changes self.now path.now) (S.start path.now)))
             → IfOk result (λ bounds. (bounds.0 ≡ first) × (bounds.1 ≡ first + length all)) }
     {
         let read = self.open_to_read(path)?;
@@ -165,7 +187,7 @@ impl<'a, S: SystemFiles> Logs<'a, Rc<S, Global>> {
 
     /// The system itself.
     pub fn system(&self) -> &S
-        ensures unchanged { IsTrue S.honest → (d : List ℕ) → S.changes result.now d ≡ [] }
+        ensures so { IsTrue S.honest → (d : List ℕ) → S.was_so result.now d }
     {
         &*self.system
     }

@@ -115,6 +115,12 @@ pub fn check_log(rt: &HostRuntime, path: &str) -> Result<(), FailureCause> {
     check_found(rt, path, fs::metadata(rt, path)?, false)
 }
 
+/// The numbers of the segments of the log at the path. Fails if there is none, or a segment is no plain file.
+pub fn check_parts(rt: &HostRuntime, path: &str) -> Result<Vec<u64>, FailureCause> {
+    check_log(rt, path)?;
+    segment_numbers(rt, path)
+}
+
 /// Fails if there is neither a log at the path nor a place for a new one: nothing, or an empty folder.
 pub fn check_place(rt: &HostRuntime, path: &str) -> Result<(), FailureCause> {
     match fs::metadata(rt, path) {

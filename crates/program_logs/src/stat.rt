@@ -2,7 +2,7 @@
 
 use crate::FOLDER;
 use crate::logs::ReadLogs;
-use crate::places::{file_in, segment_numbers, tail_bytes};
+use crate::places::{check_parts, file_in, segment_numbers, tail_bytes};
 use clap::{ArgMatches, Command};
 use program_base::command_words::{Argument, command_of};
 use program_base::failure::{Failure, FailureCause};
@@ -81,6 +81,7 @@ fn print<S: SystemFiles>(
     path: &str,
     is_json: bool,
 ) -> Result<(), FailureCause> {
+    check_parts(logs.rt, path)?;
     let (first, next, end) = logs.bounds(path)?;
     print_numbers(logs.rt, path, first, next, is_json)?;
     end

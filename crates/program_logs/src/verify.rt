@@ -2,7 +2,7 @@
 
 use crate::FOLDER;
 use crate::logs::ReadLogs;
-use crate::places::{check_log, file_in, segment_numbers};
+use crate::places::{check_parts, file_in};
 use clap::{ArgMatches, Command};
 use log_tail::TailView;
 use program_base::command_words::{Argument, command_of};
@@ -168,8 +168,7 @@ fn verify<S: SystemFiles>(
     path: &str,
     is_quiet: bool,
 ) -> Result<bool, FailureCause> {
-    check_log(logs.rt, path)?;
-    let segments = segment_numbers(logs.rt, path)?;
+    let segments = check_parts(logs.rt, path)?;
     let are_sound = check_segments(logs, path, &segments, is_quiet)?;
     let is_sound = check_tail(logs, path)? && are_sound;
     if is_sound {

@@ -253,10 +253,6 @@ entries_same ok known entries old new knows syncs = record {
 
 -- ---- a folder that is open
 
--- of a folder that was not changed
-pub first : (known : List ℕ → Standing) (entries : Bool) (made : List Change) (start : Disk) → made ≡ [] → Knows known entries start → Knows known entries (replay made start)
-first known entries made start none so = subst (λ (list : List Change). Knows known entries (replay list start)) (sym none) so
-
 -- what holds of a system and a path holds of equal ones
 pub as_equal : {S : Type 0} (P : S → List ℕ → Type 0) (s t : S) (p q : List ℕ) → s ≡ t → p ≡ q → P s p → P t q
 as_equal P s t p q es ep holds = subst (λ (x : List ℕ). P t x) ep (subst (λ (y : _). P y p) es holds)

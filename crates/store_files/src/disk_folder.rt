@@ -68,7 +68,7 @@ impl<S: SystemFiles> Model for DiskFolder<S> {
         × IfSome f.open_file (λ o. IsTracked
         (replay (S.changes f.system (string_bytes f.path)) (S.start (string_bytes f.path))) (string_bytes f.path)
         (string_bytes o.name) (S.opened_as o.file) (S.number o.file))
-        × (not (is_some f.mark.lock) ≡ true → S.changes f.system (string_bytes f.path) ≡ [])
+        × (not (is_some f.mark.lock) ≡ true → S.was_so f.system (string_bytes f.path))
         × (f.mark.is_kept ≡ true → IsMarked (option_map S.locks f.mark.lock) (option_map S.place f.mark.lock)
         (S.was_so f.system (string_bytes f.path)) (S.claims f.system (string_bytes f.path))
         (replay (S.changes f.system (string_bytes f.path)) (S.start (string_bytes f.path))) (string_bytes f.path)
@@ -167,7 +167,7 @@ impl<S: SystemFiles> DiskFolder<S> {
     ///
     /// Those of the system.
     pub fn open_to_read(alloc: Global, system: S, path: &str) -> io::Result<DiskFolder<S>>
-        requires unchanged { IsTrue S.honest → S.changes system path.now ≡ [] }
+        requires so { IsTrue S.honest → S.was_so system path.now }
         ensures system { IfOk result (λ f. f.system ≡ system) }
         ensures path { IfOk result (λ f. f.path ≡ path.now) }
         ensures read_only { IfOk result (λ f. IsTrue f.is_read_only) }
@@ -187,10 +187,10 @@ impl<S: SystemFiles> DiskFolder<S> {
         })
     }
 
-    /// Whether it is open to be read alone. Then no call has changed it.
+    /// Whether it is open to be read alone. Then what its mark claims is so, as when it was opened.
     pub fn is_read_only(&self) -> bool
         ensures answer { result ≡ self.now.is_read_only }
-        ensures unchanged { IsTrue S.honest → IsTrue result → S.changes self.now.system self.now.path ≡ [] }
+        ensures so { IsTrue S.honest → IsTrue result → S.was_so self.now.system self.now.path }
     {
         self.mark.lock.is_none()
     }
@@ -237,7 +237,7 @@ impl<S: SystemFiles> DiskFolder<S> {
 
     // Whether the last writer left this file on the disk. Where that can't be read it is not known.
     fn is_left_synced(&self, name: &str) -> bool
-        requires unchanged { IsTrue S.honest → S.changes self.now.system self.now.path ≡ [] }
+        requires so { IsTrue S.honest → S.was_so self.now.system self.now.path }
         ensures trusted { IsTrue S.honest → IsTrue result
             → trusts (replay (S.changes self.now.system self.now.path) (S.start self.now.path)) name.now }
         ensures durable { IsTrue S.honest → IsTrue result → (bytes : List ℕ)

@@ -83,6 +83,8 @@ impl SystemFiles for HostFiles {
 
     ghost was_so = { λ _ _. Unit {0} };
 
+    ghost first_so = { λ _ _ _ _. tt };
+
     ghost sound = { λ _ _. unknown_is_sound };
 
     fn make_folder(&self, path: &str) -> io::Result<()> {

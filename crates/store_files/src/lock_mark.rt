@@ -146,6 +146,7 @@ impl<S: SystemFiles> LockMark<S> {
         ensures lock { unwrap_or (option_map S.is_locked self.new.lock) false
             ≡ unwrap_or (option_map S.is_locked self.old.lock) false }
         ensures changes { S.changes system.new ≡ S.changes system.old }
+        ensures so { IsTrue S.honest → (d : List ℕ) → S.was_so system.old d → S.was_so system.new d }
     {
         let Some(lock) = &mut self.lock else {
             return Err(ErrorKind::PermissionDenied.into());
@@ -199,6 +200,7 @@ impl<S: SystemFiles> LockMark<S> {
         ensures lock { unwrap_or (option_map S.is_locked self.new.lock) false
             ≡ unwrap_or (option_map S.is_locked self.old.lock) false }
         ensures changes { S.changes system.new ≡ S.changes system.old }
+        ensures so { IsTrue S.honest → (d : List ℕ) → S.was_so system.old d → S.was_so system.new d }
     {
         self.check_lock()?;
         if !self.is_kept {
@@ -236,6 +238,7 @@ impl<S: SystemFiles> LockMark<S> {
         ensures lock { unwrap_or (option_map S.is_locked self.new.lock) false
             ≡ unwrap_or (option_map S.is_locked self.old.lock) false }
         ensures changes { S.changes system.new ≡ S.changes system.old }
+        ensures so { IsTrue S.honest → (d : List ℕ) → S.was_so system.old d → S.was_so system.new d }
     {
         if !self.is_kept || self.knowledge.others() == Standing::Failed {
             return Ok(());
@@ -274,7 +277,7 @@ pub fn is_left_synced<S: SystemFiles>(
     folder: &str,
     name: &str,
 ) -> io::Result<bool>
-    requires unchanged { IsTrue S.honest → S.changes system.now folder.now ≡ [] }
+    requires so { IsTrue S.honest → S.was_so system.now folder.now }
     ensures trusted { IsTrue S.honest → IfOk result (λ is. IsTrue is
         → trusts (replay (S.changes system.now folder.now) (S.start folder.now)) name.now) }
     ensures durable { IsTrue S.honest → IfOk result (λ is. IsTrue is → (bytes : List ℕ)

@@ -46,6 +46,8 @@ impl<S: SystemFiles> SystemFiles for Rc<S, Global> {
 
     ghost was_so = { λ s. S.was_so s.value };
 
+    ghost first_so = { λ s. S.first_so s.value };
+
     ghost sound = { λ s. S.sound s.value };
 
     fn make_folder(&self, _path: &str) -> io::Result<()> {

@@ -190,8 +190,7 @@ pub trait SystemFiles: Drop {
     fn has_path(&self, file: &Self::File, path: &str) -> io::Result<bool>;
 
     /// The mark in the file `lock` of a folder, which is open and has that path: `fstat`, and `read` of it and of the
-    /// number of the machine's start. What it claims of the folder is so until this system changes the folder: no one
-    /// else writes that file, and a mark is of one start of the machine and of one file.
+    /// number of the machine's start.
     fn find_mark(
         &self,
         alloc: Global,
@@ -199,8 +198,8 @@ pub trait SystemFiles: Drop {
         lock_path: &str,
         folder: &str,
     ) -> io::Result<FoundMark>
-        ensures so { IsTrue honest → changes self.now folder.now ≡ [] → IfOk result (λ found.
-            AreSo (claims_of found.mark) (start folder.now) × was_so self.now folder.now) }
+        ensures so { IsTrue honest → was_so self.now folder.now → IfOk result (λ found.
+            AreSo (claims_of found.mark) (replay (changes self.now folder.now) (start folder.now))) }
         ensures claims { IsTrue honest → locks lock.now ≡ Some folder.now
             → IfOk result (λ found. claims self.now folder.now ≡ claims_of found.mark) }
         ensures place { IsTrue honest
@@ -237,6 +236,10 @@ pub trait SystemFiles: Drop {
         ensures honest { IsTrue honest → IfOk result (λ file. IsTrue (Self.Reader.honest file)) }
         ensures absent { IsTrue honest → (d n : List ℕ) → IsPath d n path.now → IfErr result
             (λ e. error_kind e ≡ ErrorKind.NotFound → seen (replay (changes self.now d) (start d)) n ≡ None) };
+
+    /// What a mark claims of a folder is so until this system changes the folder: no one else writes the file `lock`,
+    /// and a mark is of one start of the machine and of one file.
+    ghost first_so: { (s : Self) (d : List ℕ) → IsTrue honest → changes s d ≡ [] → was_so s d };
 
     /// At each moment a crash may leave what is read, an entry that is on the disk leads to its file, and a file has at
     /// most one name.

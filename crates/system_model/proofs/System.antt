@@ -8,14 +8,14 @@ use Rattle.std.proofs.lemmas.List.Elements.{Contains-append_right}
 use Rattle.std.proofs.lemmas.List.{map-append, reverse-append}
 use Rattle.store_folder.specs.Folder.{Look, Elsewhere, ElsewhereOfBoth, AreNames}
 use Rattle.store_folder.specs.Changes.{look_of}
-use Rattle.store_files.specs.Disk.{Change, Created, Appended, FileSynced, Moved, Removed, FolderSynced}
+use Rattle.store_files.specs.Disk.{Change, Created, Appended, Cut, FileSynced, SyncFailed, Moved, Removed, FolderSynced}
 use Rattle.store_files.specs.Disk.{seen, made, put, replay, Adds, Writes, Syncs, IsPossible}
 use Rattle.store_files.specs.Paths.{IsPath, IsIn, slash}
 use Rattle.store_files.specs.Known.{Knows, AreSo, KeepsMarks}
 use Rattle.store_files.specs.Knowledge.{is_part}
-use Rattle.store_files.specs.Mark.{claimed, claims_entries, claims_of, named, others_of}
+use Rattle.store_files.specs.Mark.{claimed, claims_entries, claims_of, named, others_of, IsBlank}
 use Rattle.store_files.specs.declared.mark.MarkKind.{MarkKind}
-use Rattle.store_files.specs.declared.knowledge.Standing.TheVariants.{Failed}
+use Rattle.store_files.specs.declared.knowledge.Standing.TheVariants.{Failed, Unsynced, Synced}
 use Rattle.std.specs.Prelude.{◌||◌, vec_len}
 use Rattle.std.specs.List.{AllZip}
 use Rattle.std.proofs.Common.{Vec, Global}
@@ -25,8 +25,8 @@ use Rattle.store_files.proofs.KnowledgeLemmas.{equal, unequal, decided}
 use Rattle.store_files.proofs.DiskLemmas.{read_at, creates, appends}
 use Rattle.store_files.proofs.StepLemmas.{renames, removes}
 use Rattle.system_model.specs.Made.{empty}
-use Rattle.system_model.specs.System.{MemDisk, Holds, number_in, can_be_made, are_made, syncs_of, changes_in, made_by, change_of}
-use Rattle.system_model.specs.Sound.{both, synced_or_not}
+use Rattle.system_model.specs.System.{MemDisk, Holds, number_in, can_be_made, are_made, syncs_of, changes_in, made_by, change_of, WasSo}
+use Rattle.system_model.specs.Sound.{both, synced_or_not, knows_synced}
 use Rattle.system_model.specs.declared.content.Step.{Step}
 use Rattle.system_model.specs.declared.content.NamedFile.{NamedFile}
 use Rattle.system_model.specs.declared.content.Content.{Content}
@@ -232,29 +232,10 @@ pub writes_one : {T E : Type 0} (r : Result T E) (old new : MemDisk) (f : ℕ) (
 writes_one (Ok x) old new f bytes d same also at more none made = ok_more old new (Appended f bytes) d same at more made
 writes_one (Err e) old new f bytes d same also at more none made = inl (none_more old new d same none also)
 
--- ---- what is claimed of a folder in which nothing is
-
-no_files : (paths : List (List ℕ)) (d n : List ℕ) → (replay (syncs_of paths d) empty).file_of n ≡ None
-no_files [] d n = refl
-no_files (path ∷ paths) d n =
-    synced_or_not (λ (cs : List Change). (replay cs empty).file_of n ≡ None) (pointwise nat_eq path d) (syncs_of paths d) (no_files paths d n) (no_files paths d n)
-
-all_kept : (paths : List (List ℕ)) (d n : List ℕ) → (replay (syncs_of paths d) empty).kept n
-all_kept [] d n = tt
-all_kept (path ∷ paths) d n = synced_or_not (λ (cs : List Change). (replay cs empty).kept n) (pointwise nat_eq path d) (syncs_of paths d) (all_kept paths d n) tt
-
-knows_synced : (known : List ℕ → Standing) (entries : Bool) (paths : List (List ℕ)) (d : List ℕ) → Knows known entries (replay (syncs_of paths d) empty)
-knows_synced known entries paths d = record {
-  trusted = λ n ne f at. let none = no_files paths d n in let no : ⊥ = cc in absurd no;
-  synced = λ n bytes is holds. let none = no_files paths d n in let at = holds.1 in let no : ⊥ = cc in absurd no;
-  all_entries = λ all n. all_kept paths d n;
-}
-
-pub knows_empty : (known : List ℕ → Standing) (entries : Bool) → Knows known entries empty
-knows_empty known entries = knows_synced known entries [] []
+-- ---- what is claimed of a folder
 
 pub keeps : (old new : MemDisk) → new.mark ≡ old.mark
-    → KeepsMarks (λ (s : MemDisk) (d : List ℕ). claims_of s.mark) (λ (s : MemDisk) (d : List ℕ). AreSo (claims_of s.mark) (replay (changes_in s d) empty)) changes_in (λ _. empty) old new
+    → KeepsMarks (λ (s : MemDisk) (d : List ℕ). claims_of s.mark) WasSo changes_in (λ _. empty) old new
 keeps old new same d = record {
   same = ap claims_of same;
   so = λ was now. subst (λ (m : Mark). AreSo (claims_of m) (replay (changes_in new d) empty)) (sym same) now;
@@ -295,3 +276,32 @@ so_of_each s mark d so = elim (decided s.folder d) [
   | inr ne ↦
       subst (λ (made : List Change). AreSo (claims_of mark) (replay made empty)) (sym (elsewhere s d ne)) (knows_synced (claimed mark) (claims_entries mark.kind) s.others d)
 ]
+
+-- ---- a blank mark, which claims of each file that no sync of it has failed
+
+trusts_each : (changes : List Change) → are_made changes ≡ true → (f : ℕ) → (replay changes empty).trusted f
+trusts_each [] made f = tt
+trusts_each (Created name ∷ earlier) made f = λ _. trusts_each earlier made f
+trusts_each (Appended g more ∷ earlier) made f = trusts_each earlier made f
+trusts_each (Cut g len ∷ earlier) made f = let no : ⊥ = cc in absurd no
+trusts_each (FileSynced g ∷ earlier) made f = trusts_each earlier made f
+trusts_each (SyncFailed g bytes ∷ earlier) made f = let no : ⊥ = cc in absurd no
+trusts_each (Moved from to ∷ earlier) made f = trusts_each earlier (both (can_be_made (Moved from to) (replay earlier empty)) (are_made earlier) made).1 f
+trusts_each (Removed name ∷ earlier) made f = trusts_each earlier made f
+trusts_each (FolderSynced ∷ earlier) made f = trusts_each earlier made f
+
+unsynced : (b : Bool) → (if b then Failed else Unsynced) ≢ Synced
+unsynced true e = let no : ⊥ = cc in no
+unsynced false e = let no : ⊥ = cc in no
+
+claims_unsynced : (mark : Mark) (n : List ℕ) → IsBlank mark → claimed mark n ≡ (if is_part n then Failed else Unsynced)
+claims_unsynced mark n blank =
+    ap (λ (names : List (Vec ℕ Global)). if is_part n then Failed else (if named names n then Failed else others_of mark.kind)) blank.1
+    ∙ ap (λ (kind : MarkKind). if is_part n then Failed else others_of kind) blank.0
+
+pub blank_is_so : (s : MemDisk) → IsBlank s.mark → are_made s.changes ≡ true → (d : List ℕ) → WasSo s d
+blank_is_so s blank made d = so_of_each s s.mark d (subst (λ (cs : List Change). AreSo (claims_of s.mark) (replay cs empty)) (sym (here s s.folder made refl)) record {
+  trusted = λ n ne f at. trusts_each s.changes made f;
+  synced = λ n bytes is holds. absurd (unsynced (is_part n) (sym (claims_unsynced s.mark n blank) ∙ is));
+  all_entries = λ all. let no : ⊥ = cc in absurd no;
+})

@@ -4,6 +4,8 @@ use Rattle.std.specs.declared.alloc.Global.{Global}
 use lib.Pointwise.{pointwise}
 use Rattle.store_files.specs.Disk.{Change, Created, Appended, Cut, FileSynced, SyncFailed, Moved, Removed, FolderSynced, Disk, replay, seen}
 use Rattle.store_folder.specs.Changes.{look_of}
+use Rattle.store_files.specs.Known.{AreSo}
+use Rattle.store_files.specs.Mark.{claims_of}
 use Rattle.store_files.specs.declared.mark.Mark.{Mark}
 use Rattle.system_model.specs.Made.{empty}
 use Rattle.system_model.specs.declared.content.NamedFile.{NamedFile}
@@ -56,6 +58,10 @@ made_by steps = reverse (map change_of steps)
 
 abbrev pub synced_by : List (String Global) → List (List ℕ)
 synced_by paths = reverse (map string_bytes paths)
+
+-- What the mark of a system claims is so of the folder of a path.
+abbrev pub WasSo : MemDisk → List ℕ → Type 0
+WasSo s d = AreSo (claims_of s.mark) (replay (changes_in s d) empty)
 
 -- the number of the file of a name, of which the last entry counts
 abbrev pub number_in : List NamedFile → List ℕ → Option ℕ → Option ℕ

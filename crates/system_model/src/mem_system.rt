@@ -7,7 +7,8 @@ ghost use Rattle.store_folder.specs.Folder.{bytes_of};
 ghost use Rattle.store_files.specs.Disk.{replay, seen};
 ghost use Rattle.store_files.specs.Paths.{IsPath, IsIn};
 ghost use Rattle.system_model.specs.Made.{empty};
-ghost use Rattle.system_model.specs.System.{changes_in, change_of, are_made, made_by};
+ghost use Rattle.store_files.specs.Mark.{IsBlank};
+ghost use Rattle.system_model.specs.System.{changes_in, change_of, are_made, made_by, WasSo};
 
 use crate::content::{Content, Step, name_of, number_of};
 use std::alloc::{AllocError, Global};
@@ -99,8 +100,10 @@ impl MemSystem {
     /// A system with an empty folder of this path.
     pub fn new(alloc: Global, folder: &str) -> Result<MemSystem, AllocError>
         ensures folder { IfOk result (λ s. s.folder ≡ folder.now) }
+        ensures mark { IfOk result (λ s. IsBlank s.mark) }
         ensures changes { IfOk result (λ s. s.changes ≡ []) }
         ensures unchanged { IfOk result (λ s. (d : List ℕ) → changes_in s d ≡ []) }
+        ensures so { IfOk result (λ s. (d : List ℕ) → WasSo s d) }
     {
         Ok(MemSystem {
             alloc,
@@ -114,10 +117,12 @@ impl MemSystem {
         })
     }
 
-    /// The system as another process finds it: with the changes that were made, and all locks free.
+    /// The system as another process finds it: with the changes that were made in its folder, a blank mark and all
+    /// locks free. That other folders were synced is forgotten.
     pub fn again(&self) -> io::Result<MemSystem>
         ensures folder { IfOk result (λ s. s.folder ≡ self.now.folder) }
         ensures changes { IfOk result (λ s. s.changes ≡ self.now.changes) }
+        ensures so { IfOk result (λ s. (d : List ℕ) → WasSo s d) }
     {
         let mut system = MemSystem::new(self.alloc, self.folder.as_str())?;
         for step in self.steps() {
@@ -232,12 +237,10 @@ impl MemSystem {
 
 impl SystemFiles for MemSystem {
     ghost use Rattle.std.specs.Prelude.{[], true, option_map, string_bytes};
-    ghost use Rattle.store_files.specs.Disk.{replay};
-    ghost use Rattle.store_files.specs.Known.{AreSo};
     ghost use Rattle.store_files.specs.Mark.{claims_of};
     ghost use Rattle.system_model.specs.Made.{empty};
-    ghost use Rattle.system_model.specs.System.{changes_in};
-    ghost use Rattle.system_model.specs.Sound.{changes_are_sound};
+    ghost use Rattle.system_model.specs.System.{changes_in, WasSo};
+    ghost use Rattle.system_model.specs.Sound.{changes_are_sound, first_so};
 
     type File = MemSystemFile;
 
@@ -261,7 +264,9 @@ impl SystemFiles for MemSystem {
 
     ghost claims = { λ s _. claims_of s.mark };
 
-    ghost was_so = { λ s d. AreSo (claims_of s.mark) (replay (changes_in s d) empty) };
+    ghost was_so = { WasSo };
+
+    ghost first_so = { λ s d _. first_so s d };
 
     ghost sound = { changes_are_sound };
 

@@ -2,6 +2,8 @@
 #![tactic(auto)]
 
 mod inputs;
+#[cfg(test)]
+mod logs;
 mod passing;
 #[cfg(test)]
 mod stores;

@@ -2,14 +2,8 @@
 
 use crate::{MemInputs, passed};
 use document_framing::Framing;
-use framed_logs::SyncPolicy;
-use program_base::failure::Failure;
-use program_logs::append::{AppendOptions, append};
-use program_logs::logs::{Logs, TailOptions};
-use segmented_log::Commit;
 use std::test::Fail;
 use store_commands::StoreShape;
-use system_model::MemSystem;
 
 /// The files of the tests.
 pub(crate) const FILES: &[(&str, &[u8])] = &[
@@ -71,45 +65,5 @@ fn the_standard_input_is_read_once(rt: HostRuntime) -> Result<(), Fail> {
     let out = printed(&rt, Framing::Lines, &["-", "four", "-"]);
     assert!(rt; out == Some(b"read\nlast\nfour\n".to_vec(rt.alloc())?));
     assert!(rt; printed(&rt, Framing::Lines, &["missing"]).is_none());
-    Ok(())
-}
-
-// The numbers that are printed of four lines that are appended to a log of a system in memory, and the last of these.
-fn logged(rt: &HostRuntime, policy: SyncPolicy) -> Result<(Vec<u8>, Option<Vec<u8>>), Failure> {
-    let alloc = rt.alloc();
-    let path = "events";
-    let mut inputs = MemInputs {
-        files: FILES,
-        standard: b"",
-    };
-    let options = AppendOptions {
-        policy,
-        framing: Framing::Lines,
-        expected: Some(4),
-        tail: TailOptions {
-            commit: Commit::OneSync,
-            seal_size: 1 << 20,
-        },
-        is_quiet: true,
-    };
-    let logs = Logs::new(rt, MemSystem::new(alloc, path)?);
-    let (mut printed, paths) = (Vec::new(alloc), ["lines", "four"]);
-    let output = Some(&mut printed);
-    let mut log = append(logs, &mut inputs, path, options, &paths, output)?.log;
-    let last = log.get(3).ok().flatten();
-    Ok((printed, last))
-}
-
-#[test]
-fn records_are_appended_to_a_log_of_a_system_in_memory(rt: HostRuntime) -> Result<(), Fail> {
-    let (numbers, last) = (b"0\n1\n2\n3\n".as_slice(), b"four".as_slice());
-    for policy in [SyncPolicy::Every, SyncPolicy::Batch, SyncPolicy::End] {
-        let found = logged(&rt, policy).ok();
-        assert!(rt;
-            found.is_some_and(|(printed, found)| {
-                printed.as_slice() == numbers && found.is_some_and(|found| found.as_slice() == last)
-            })
-        );
-    }
     Ok(())
 }

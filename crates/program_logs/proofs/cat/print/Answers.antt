@@ -8,7 +8,7 @@ pub returns-clause-printed : goal.returns-clause-printed
 returns-clause-printed g c honest first all at =
     let out = g.W.Write.contents in
     let folder = c.deref_mut-read.result.now.folder in
-    let system : folder.system.value ≡ c.args.logs.now.value = search rules in
+    let system : folder.system.value ≡ c.args.logs.now = search rules in
     let path : folder.path ≡ c.args.path.now = search rules in
     let here : IsLog first all (seen (replay (g.S.SystemFiles.changes folder.system.value folder.path) (g.S.SystemFiles.start folder.path))) = rw (system, path) at in
     let end_is : c.end.result ≡ first + length all = c.end.ensures.end honest first all here in
@@ -19,7 +19,7 @@ returns-clause-printed g c honest first all at =
 pub returns-clause-next : goal.returns-clause-next
 returns-clause-next g c honest first all at =
     let folder = c.deref_mut-read.result.now.folder in
-    let system : folder.system.value ≡ c.args.logs.now.value = search rules in
+    let system : folder.system.value ≡ c.args.logs.now = search rules in
     let path : folder.path ≡ c.args.path.now = search rules in
     let here : IsLog first all (seen (replay (g.S.SystemFiles.changes folder.system.value folder.path) (g.S.SystemFiles.start folder.path))) = rw (system, path) at in
     let end_is : c.end.result ≡ first + length all = c.end.ensures.end honest first all here in

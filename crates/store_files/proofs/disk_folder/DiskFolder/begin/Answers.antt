@@ -1,4 +1,5 @@
-use Rattle.std.proofs.Common.{rules, ◌≡◌, true, sym, subst, string_bytes}
+use Rattle.std.proofs.Common.{rules, ◌≡◌, ◌∙◌, true, ap, sym, subst, string_bytes}
+use Rattle.std.specs.Prelude.{not}
 use Rattle.store_files.specs.Disk.{replay}
 use Rattle.store_files.specs.Knowledge.{said}
 use Rattle.store_files.specs.Known.{Knows, AreSo}
@@ -21,3 +22,12 @@ returns-clause-permitted g c = λ h keeps.
     let knows = subst (λ changes. Knows known entries (replay (changes d) start)) (sym c.begin.ensures.changes) before.0.knows in
     ok_map c.begin.result _ (AreSo claims disk × Permits claims disk c.args.doing.now)
     (λ covers. (marked.so, permitted c.begin.new.self.mark claims known entries disk c.args.doing.now marked.claimed covers knows)) (c.begin.ensures.covered kept)
+
+pub invariant_of-self : goal.invariant_of-self
+invariant_of-self g c = λ h.
+    let before = c.self.invariant h in (
+      search rules,
+      search rules,
+      λ none. c.begin.ensures.so h (string_bytes c.self.inside.path) (before.2 (ap not (sym c.begin.ensures.same) ∙ none)),
+      search rules,
+    )

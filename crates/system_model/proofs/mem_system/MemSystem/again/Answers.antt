@@ -1,8 +1,9 @@
-use Rattle.std.proofs.Common.{rules, ◌≡◌, ◌+◌, ◌<◌, List, [], ◌∷◌, ◌++◌, take, length, sym, ap, ◌∙◌}
+use Rattle.std.proofs.Common.{rules, ◌≡◌, ◌+◌, ◌<◌, List, [], ◌∷◌, ◌++◌, take, length, sym, ap, subst, ◌∙◌}
 use Rattle.std.proofs.lemmas.List.{take_more}
+use Rattle.store_files.specs.Mark.{IsBlank}
 use Rattle.system_model.specs.declared.content.Step.{Step}
 use Rattle.system_model.specs.System.{change_of, made_by}
-use Rattle.system_model.proofs.System.{pushed}
+use Rattle.system_model.proofs.System.{blank_is_so, pushed}
 use Rattle.system_model.proofs.mem_system.MemSystem.again.Goals as goal
 
 pub loop-step-preserved : goal.loop-step-preserved
@@ -17,7 +18,12 @@ loop-step-preserved c =
     let copied : change_of c.in_ok-copy.field-0 ≡ change_of step = c.in_ok-copy.ensures in
     record {
       folder = search rules;
+      mark = subst IsBlank (sym c.in_ok-make.ensures.mark) c.loop-step.invariant.mark;
+      possible = c.in_ok-make.ensures.possible;
       made = c.in_ok-make.ensures.made ∙ ap (λ change. change ∷ c.loop-step.system.changes) copied
           ∙ ap (λ changes. change_of step ∷ changes) c.loop-step.invariant.made ∙ sym more;
       all = search rules;
     }
+
+pub returns-clause-so : goal.returns-clause-so
+returns-clause-so c = blank_is_so c.loop-step.system c.loop-step.invariant.mark c.loop-step.invariant.possible
