@@ -9,6 +9,7 @@ pub mod input_files;
 pub mod inputs;
 pub mod laws;
 mod lengths;
+pub mod other_count;
 mod pieces;
 
 pub use fault::FramingFault;
@@ -17,3 +18,4 @@ pub use form::{DocumentForm, ShowError};
 pub use framing::Framing;
 pub use input_files::{HostInputs, InputFiles};
 pub use inputs::{InputFault, feed_inputs};
+pub use other_count::{OtherCount, check_count};

@@ -13,10 +13,9 @@ use Rattle.segmented_log.specs.Log.{LogView}
 use Rattle.framed_logs.specs.declared.sync_policy.SyncPolicy.{SyncPolicy}
 use Rattle.framed_logs.specs.declared.sync_policy.SyncPolicy.TheVariants.{End}
 use Rattle.framed_logs.specs.declared.whole_inputs.AppendError.{AppendError}
-use Rattle.framed_logs.specs.declared.whole_inputs.AppendError.TheVariants as append
 use Rattle.framed_logs.specs.Printed.{Printed}
 use Rattle.framed_logs.specs.Appending.{Adds, EndsAppend, FailsSync, PutsAll, Stops, StopsAfter, Syncs}
-use Rattle.framed_logs.specs.Causes.{IsOtherCount, of_feed}
+use Rattle.framed_logs.specs.Causes.{of_feed}
 use Rattle.framed_logs.proofs.AppendLemmas.{adds_stops, adds_then_stops, puts_all, stops_broken, stops_synced}
 
 pub on_ok_when : {A E : Type 0} (r : Result A E) (H P : Type 0) → (H → OnOk r P) → OnOk r (H → P)
@@ -38,15 +37,7 @@ pub all_first : (known : Option (List (List ℕ))) (documents : List (List ℕ))
 all_first None documents p = tt
 all_first (Some known) documents p = ([], sym p ∙ sym (append-nil documents))
 
--- an error of another count ends an append as others do
-pub ends_count : {F : Type 0} (leaves : F → F → (Look → Type 0) → Type 0) (policy : SyncPolicy) (known : Option (List (List ℕ))) (old new : LogView F) (p q : Printed) (e : AppendError)
-    → IsOtherCount e → StopsAfter leaves policy known old new p q → EndsAppend leaves policy known old new p q e
-ends_count leaves policy known old new p q (append.Input fault) other stops = absurd other
-ends_count leaves policy known old new p q (append.Log error) other stops = absurd other
-ends_count leaves policy known old new p q (append.OtherCount expected came) other stops = stops
-ends_count leaves policy known old new p q (append.Output error) other stops = absurd other
-
--- so do those of a feed
+-- an error of a feed ends an append as others do
 pub ends_feed : {F : Type 0} (leaves : F → F → (Look → Type 0) → Type 0) (policy : SyncPolicy) (known : Option (List (List ℕ))) (old new : LogView F) (p q : Printed)
     (e : FeedError InputFault LogError) → StopsAfter leaves policy known old new p q → EndsAppend leaves policy known old new p q (of_feed e)
 ends_feed leaves policy known old new p q (feed.Input fault) stops = stops

@@ -10,8 +10,3 @@ use Rattle.framed_logs.specs.declared.whole_inputs.AppendError.TheVariants as ap
 abbrev pub of_feed : FeedError InputFault LogError → AppendError
 of_feed (feed.Input fault) = append.Input fault
 of_feed (feed.Sink error) = append.Log error
-
--- another number of records came
-abbrev pub IsOtherCount : AppendError → Type 0
-IsOtherCount (append.OtherCount expected came) = Unit {0}
-IsOtherCount _ = ⊥

@@ -5,11 +5,12 @@ ghost use Rattle.document_framing.specs.Feeding.{all_documents};
 ghost use Rattle.document_framing.specs.Inputs.{inputs_of};
 ghost use Rattle.store_folder.specs.Moments.{LeavesOnly};
 ghost use Rattle.framed_logs.specs.Appending.{AppendsAll, EndsAppend, PutsAll};
-ghost use Rattle.framed_logs.specs.Causes.{IsOtherCount};
 
 use crate::appending::Appending;
 use crate::sync_policy::SyncPolicy;
-use document_framing::{FeedError, FeedProgress, Framing, InputFault, InputFiles, feed_inputs};
+use document_framing::{
+    FeedError, FeedProgress, Framing, InputFault, InputFiles, OtherCount, check_count, feed_inputs,
+};
 use segmented_log::LogError;
 use std::alloc::Global;
 use std::io;
@@ -24,7 +25,7 @@ pub enum AppendError {
     /// The log refused a call.
     Log(LogError),
     /// Another number of records came than was expected.
-    OtherCount { expected: u64, came: u64 },
+    OtherCount(OtherCount),
     /// All records are in the log. A write of their numbers failed.
     Output(io::Error),
 }
@@ -37,6 +38,17 @@ impl From<LogError> for AppendError {
 
     fn from(error: LogError) -> AppendError {
         AppendError::Log(error)
+    }
+}
+
+impl From<OtherCount> for AppendError {
+    ghost use Rattle.std.specs.Prelude.{◌≡◌};
+    ghost use Rattle.framed_logs.specs.declared.whole_inputs.AppendError.TheVariants as append;
+
+    ghost from_gives = { λ count e. e ≡ append.OtherCount count };
+
+    fn from(count: OtherCount) -> AppendError {
+        AppendError::OtherCount(count)
     }
 }
 
@@ -75,17 +87,6 @@ fn append_in_batches<I: InputFiles, F: ReadableFolder, W: Write, P: FeedProgress
     fed?;
     synced?;
     Ok(())
-}
-
-// Fails if another number of records came than was expected.
-fn check_count(expected: Option<u64>, came: u64) -> Result<(), AppendError>
-    ensures counted { OnOk result (IfSome expected (λ count. came ≡ count)) }
-    ensures other { IfErr result IsOtherCount }
-{
-    match expected {
-        Some(expected) if expected != came => Err(AppendError::OtherCount { expected, came }),
-        _ => Ok(()),
-    }
 }
 
 // Appends the records of inputs as one batch, if as many came as were expected.

@@ -1,13 +1,14 @@
 //! Fills a store with those of another one, if there is one, and the documents of inputs.
 
-ghost use Rattle.std.specs.Prelude.{◌≡◌, length, map, IfSome, OnOk};
+ghost use Rattle.std.specs.Prelude.{◌≡◌, length, map, OnOk};
 ghost use Rattle.document_framing.specs.Feeding.{all_documents};
 ghost use Rattle.document_framing.specs.Inputs.{inputs_of};
 ghost use Rattle.framed_stores.specs.Packing.{AddsAll};
 
 use docstore::{FileHandle, StoreError, StoreReader, StoreWriter, TerminatingWrite, laws};
 use document_framing::{
-    DocumentSink, FeedError, FeedProgress, Framing, InputFault, InputFiles, feed_inputs,
+    DocumentSink, FeedError, FeedProgress, Framing, InputFault, InputFiles, OtherCount,
+    check_count, feed_inputs,
 };
 use std::alloc::Global;
 use store_commands::copied_store::copy_store;
@@ -24,7 +25,7 @@ pub enum PackError<H: FileHandle> {
     /// The store took no further document.
     Store(StoreError),
     /// Another number of documents came than was expected.
-    OtherCount { expected: u64, came: u64 },
+    OtherCount(OtherCount),
 }
 
 impl<H: FileHandle> From<FeedError<InputFault, StoreError>> for PackError<H> {
@@ -108,16 +109,6 @@ fn store_inputs<F: InputFiles, P: FeedProgress, W: TerminatingWrite>(
     feed_inputs(alloc, framing, files, paths, &mut sink)
 }
 
-// Fails if another number of documents came than was expected.
-fn check_count<H: FileHandle>(expected: Option<u64>, came: u64) -> Result<(), PackError<H>>
-    ensures { OnOk result (IfSome expected (λ n. came ≡ n)) }
-{
-    match expected {
-        Some(expected) if expected != came => Err(PackError::OtherCount { expected, came }),
-        _ => Ok(()),
-    }
-}
-
 impl<'p, 'w, H: FileHandle, F: InputFiles + Drop, P: FeedProgress + Drop> PackedInputs<
     'p,
     'w,
@@ -144,7 +135,10 @@ impl<'p, 'w, H: FileHandle, F: InputFiles + Drop, P: FeedProgress + Drop> Packed
             writer,
         )?;
         let came = writer.num_docs().saturating_sub(before);
-        check_count(self.expected, u64::from(came))
+        match check_count(self.expected, u64::from(came)) {
+            Ok(()) => Ok(()),
+            Err(count) => Err(PackError::OtherCount(count)),
+        }
     }
 }
 

@@ -14,7 +14,7 @@ use crate::places::tail_bytes;
 use crate::record_span::RecordSpan;
 use crate::sync_policy::{policy_of, sync};
 use clap::{ArgMatches, Command};
-use document_framing::{Framing, InputFiles};
+use document_framing::{Framing, InputFiles, OtherCount};
 use framed_logs::{AppendError, Appending, SyncPolicy, append_inputs};
 use program_base::arguments::{self, framing_of, size_of};
 use program_base::command_words::{Argument, command_of};
@@ -172,7 +172,7 @@ fn failure_of(alloc: Global, path: &str, paths: &[&str], error: AppendError) -> 
         AppendError::Input(fault) => return input_failure(alloc, paths, fault),
         AppendError::Log(error) => refused(error),
         AppendError::Output(error) => FailureCause::Output(error),
-        AppendError::OtherCount { expected, came } => FailureCause::OtherCount {
+        AppendError::OtherCount(OtherCount { expected, came }) => FailureCause::OtherCount {
             things: Things::Records,
             expected,
             came,

@@ -9,7 +9,7 @@ ghost use Rattle.store_files.specs.Disk.{replay};
 ghost use Rattle.store_published.specs.Filling.{IsStoreOf};
 
 use clap::{ArgMatches, Command};
-use document_framing::{Framing, InputFiles};
+use document_framing::{Framing, InputFiles, OtherCount};
 use framed_stores::{PackError, PackedInputs};
 use program_base::arguments::{self, framing_of, shape_of};
 use program_base::command_words::{Argument, command_of};
@@ -91,7 +91,7 @@ fn failure_of<F: ReadAt>(
         PackError::Input(fault) => return input_failure(alloc, paths, fault),
         PackError::Copy(failure) => FailureCause::from(failure),
         PackError::Store(error) => FailureCause::Store(error),
-        PackError::OtherCount { expected, came } => FailureCause::OtherCount {
+        PackError::OtherCount(OtherCount { expected, came }) => FailureCause::OtherCount {
             things: Things::Documents,
             expected,
             came,

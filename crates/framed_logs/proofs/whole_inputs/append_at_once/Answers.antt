@@ -3,7 +3,7 @@ use Rattle.std.proofs.lemmas.Result.{err_from_is_err_and}
 use Rattle.document_framing.specs.Feeding.{all_documents}
 use Rattle.document_framing.specs.Inputs.{inputs_of}
 use Rattle.store_folder.specs.Moments.{LeavesOnly}
-use Rattle.framed_logs.proofs.FeedLemmas.{after_broken, all_stops, counted, ends_count, ends_feed, feed_puts, feed_stops}
+use Rattle.framed_logs.proofs.FeedLemmas.{after_broken, all_stops, counted, ends_feed, feed_puts, feed_stops}
 use Rattle.framed_logs.proofs.whole_inputs.append_at_once.Goals as goal
 
 pub returns-in_err-feed_inputs-clause-ended : goal.returns-in_err-feed_inputs-clause-ended
@@ -19,10 +19,9 @@ pub returns-in_err-check_count-clause-ended : goal.returns-in_err-check_count-cl
 returns-in_err-check_count-clause-ended g c honest =
     let leaves = LeavesOnly g.F.Folder.moment g.F.Folder.left_since in
     let known = all_documents c.args.framing (inputs_of (g.I.InputFiles.holds c.args.files.now) (map (λ path. path.now) c.args.paths.now)) in
-    let old = c.args.appending.now in let fed = c.feed_inputs.new.sink in let error = c.in_err-check_count.field-0.0 in
+    let old = c.args.appending.now in let fed = c.feed_inputs.new.sink in
     let given = err_from_is_err_and c.from_residual-in_err-check_count.result c.from_residual-in_err-check_count.ensures.1 in
-    rw (given.1, given.2) (ends_count leaves old.policy known old.log.value fed.log.value old.numbers fed.numbers error c.in_err-check_count.ensures.other
-    (all_stops leaves (λ t. t.policy) (λ t. t.log.value) (λ t. t.numbers) honest known old fed c.in_ok-feed_inputs.ensures.fed))
+    rw (given.1, given.2) (all_stops leaves (λ t. t.policy) (λ t. t.log.value) (λ t. t.numbers) honest known old fed c.in_ok-feed_inputs.ensures.fed)
 
 pub returns-in_err-sync-clause-ended : goal.returns-in_err-sync-clause-ended
 returns-in_err-sync-clause-ended g c honest =
