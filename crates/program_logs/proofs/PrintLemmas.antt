@@ -1,5 +1,5 @@
 -- What is printed of a log.
-use Rattle.std.proofs.Common.{◌≡◌, ◌+◌, ◌-◌, ℕ, List, Option, Result, Ok, Err, OnOk, length, refl, subst}
+use Rattle.std.proofs.Common.{◌≡◌, ◌+◌, ◌-◌, ℕ, List, Option, Result, Ok, Err, OnOk, length, refl, sym, subst}
 use Rattle.std.specs.Prelude.{◌&&◌}
 use Rattle.std.specs.Io.KnownBytes.{Keeps}
 use Rattle.std.specs.declared.ops.Range.{Range}
@@ -7,8 +7,16 @@ use Rattle.std.proofs.KnownBytes.{Appends-kept}
 use Rattle.document_framing.specs.declared.form.DocumentForm.{DocumentForm}
 use Rattle.framed_logs.specs.Reading.{PrintsRecords}
 use Rattle.program_logs.specs.Given.{PrintsRange}
+use Rattle.segmented_log.specs.Log.{IsLog}
 use Rattle.store_commands.specs.NumberRanges.{is_within, names}
+use Rattle.store_files.specs.Disk.{Change, Disk, replay, seen}
 use Rattle.store_format.specs.Block.{Slot}
+
+-- a log stays one where the system and the path have equal ones
+pub same_log : {S : Type 0} (changes : S → List ℕ → List Change) (start : List ℕ → Disk) (first : ℕ) (all : List Slot) (s t : S) (p q : List ℕ) → s ≡ t → p ≡ q
+    → IsLog first all (seen (replay (changes t q) (start q))) → IsLog first all (seen (replay (changes s p) (start p)))
+same_log changes start first all s t p q same_system same_path is =
+    subst (λ x. IsLog first all (seen (replay (changes s x) (start x)))) (sym same_path) (subst (λ y. IsLog first all (seen (replay (changes y q) (start q)))) (sym same_system) is)
 
 -- what was printed stays when the output hands it over
 pub records_kept : (form : DocumentForm) (first : ℕ) (all : List Slot) (from count : ℕ) (old mid new : Option (List ℕ)) → PrintsRecords form first all from count old mid

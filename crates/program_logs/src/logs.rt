@@ -180,8 +180,8 @@ impl<'a, S: SystemFiles> ReadLogs<'a, S> {
             → IsLog first all (seen (replay (S.changes self.now path.now) (S.start path.now)))
             → IfOk result (λ bounds. (bounds.0 ≡ first) × (bounds.1 ≡ first + length all)) }
     {
-        let read = self.open_to_read(path)?;
-        let read = &*read;
+        let opened = self.open_to_read(path)?;
+        let read = &*opened;
         Ok((read.first(), read.end(), check_end(read)))
     }
 
