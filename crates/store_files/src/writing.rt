@@ -102,6 +102,7 @@ impl<S: SystemFiles> DiskFolder<S> {
             (replay (S.changes self.new.system self.old.path) (S.start self.old.path)) }
         ensures path { self.new.path ≡ self.old.path }
         ensures failures { self.new.failures ≡ self.old.failures }
+        ensures read_only { IsTrue self.old.is_read_only → S.changes self.new.system ≡ S.changes self.old.system }
     {
         let path = self.path_of(name)?;
         self.begin(&Doing::Created(name))?;
@@ -122,6 +123,7 @@ impl<S: SystemFiles> DiskFolder<S> {
             (replay (S.changes self.new.system self.old.path) (S.start self.old.path)) }
         ensures path { self.new.path ≡ self.old.path }
         ensures failures { self.new.failures ≡ self.old.failures }
+        ensures read_only { IsTrue self.old.is_read_only → S.changes self.new.system ≡ S.changes self.old.system }
     {
         let mut open = self.take(name, true)?;
         self.begin(&Doing::Appended(name))?;
@@ -182,6 +184,7 @@ impl<S: SystemFiles> DiskFolder<S> {
             (replay (S.changes self.new.system self.old.path) (S.start self.old.path)) }
         ensures path { self.new.path ≡ self.old.path }
         ensures failures { self.new.failures ≡ self.old.failures }
+        ensures read_only { IsTrue self.old.is_read_only → S.changes self.new.system ≡ S.changes self.old.system }
     {
         let open = self.take(name, false)?;
         let is_replaced = self.begin(&Doing::SyncFailed(name))?;
@@ -210,6 +213,7 @@ impl<S: SystemFiles> DiskFolder<S> {
             (replay (S.changes self.new.system self.old.path) (S.start self.old.path)) }
         ensures path { self.new.path ≡ self.old.path }
         ensures failures { self.new.failures ≡ self.old.failures }
+        ensures read_only { IsTrue self.old.is_read_only → S.changes self.new.system ≡ S.changes self.old.system }
     {
         let (old_path, new_path) = (self.path_at(from)?, self.path_at(to)?);
         let name = String::from_str(self.alloc, to)?;
@@ -239,6 +243,7 @@ impl<S: SystemFiles> DiskFolder<S> {
             (replay (S.changes self.new.system self.old.path) (S.start self.old.path)) }
         ensures path { self.new.path ≡ self.old.path }
         ensures failures { self.new.failures ≡ self.old.failures }
+        ensures read_only { IsTrue self.old.is_read_only → S.changes self.new.system ≡ S.changes self.old.system }
     {
         let path = self.path_at(name)?;
         self.begin(&Doing::Removed(name))?;
@@ -261,6 +266,7 @@ impl<S: SystemFiles> DiskFolder<S> {
             (replay (S.changes self.new.system self.old.path) (S.start self.old.path)) }
         ensures path { self.new.path ≡ self.old.path }
         ensures failures { self.new.failures ≡ self.old.failures }
+        ensures read_only { IsTrue self.old.is_read_only → S.changes self.new.system ≡ S.changes self.old.system }
     {
         self.mark.check_lock()?;
         match self.system.sync_folder(&self.folder) {
