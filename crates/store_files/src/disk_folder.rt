@@ -187,7 +187,7 @@ impl<S: SystemFiles> DiskFolder<S> {
         })
     }
 
-    /// Whether it is open to be read alone. Then what its mark claims is so, as when it was opened.
+    /// Whether it is open to be read alone. Then what its mark claims was so at each moment.
     pub fn is_read_only(&self) -> bool
         ensures answer { result ≡ self.now.is_read_only }
         ensures so { IsTrue S.honest → IsTrue result → S.was_so self.now.system self.now.path }
